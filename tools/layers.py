@@ -16,7 +16,7 @@ GROUPS = [
     ('bytes in and out', '#d7bde2', 'cursor marks heads reader needs fields record writer log_lines payload answer'),
     ('a slow engine', '#f9e79f', 'history old_subst old_merge old_join old_ready recheck checklog'),
     ('a record', '#f5b7b1', 'run failures solve expand many keep verdict step'),
-    ('calls, programs', '#d5dbdb', 'limits lent split lines engine columns turns joinlog exports test_edges test_traps'),
+    ('calls, programs', '#d5dbdb', 'limits lent split lines engine columns turns joinlog exports test_edges test_traps test_shared'),
 ]
 WIDE, HIGH, COLUMN, ROW = 94, 28, 112, 74
 

@@ -18,7 +18,7 @@ ghost use Rattle.abilities.specs.Rules.{rule_of, RuleIn, lacks_at, misses, any_m
 use ends::Chains;
 use names::{AbilityMark, AbilitySet, COPY, DROP, KEY, PHANTOM, STORE, TypeName};
 use refusals::Refusal;
-use table::state::State;
+use table::read::ReadState;
 use table::{Applied, Constraint, Shape};
 
 pub const ABILITIES: [u8; 4] = [COPY, DROP, STORE, KEY];
@@ -54,8 +54,8 @@ pub fn kept(sets: &[u32], t: u32) -> AbilitySet
 // ---- a name's declaration
 
 #[tactic(auto, unfolding(definition::specs::Abilities::declared_abilities, definition::specs::Abilities::collection, definition::specs::Abilities::struct_abilities, table::specs::State::seen, definition::specs::Store::with_structs))]
-fn declared_abilities(st: &State<'_>, n: TypeName) -> AbilitySet
-    ensures { (ds : List d.Struct) → Declares st.now.words.now st.now.used ds → result.0 ≡ declared_abilities (held st.now ds) (name_of n) }
+fn declared_abilities<S: ReadState>(st: &S, n: TypeName) -> AbilitySet
+    ensures { (ds : List d.Struct) → Declares (S.state st.now).words.now (S.state st.now).used ds → result.0 ≡ declared_abilities (held (S.state st.now) ds) (name_of n) }
 {
     match n {
         TypeName::Multiple(_) => AbilitySet::COLLECTION,
@@ -65,18 +65,18 @@ fn declared_abilities(st: &State<'_>, n: TypeName) -> AbilitySet
 }
 
 // Struct s has a parameter i, and it is no phantom.
-fn struct_counts(st: &State<'_>, params: &[[u8; 8]; 256], s: u32, i: u32) -> bool
+fn struct_counts<S: ReadState>(st: &S, params: &[[u8; 8]; 256], s: u32, i: u32) -> bool
     requires { i < 8 }
-    ensures { (ds : List d.Struct) → Knows st.now params.now ds → result ≡ counts (held st.now ds) (d.ModuleType s) i }
+    ensures { (ds : List d.Struct) → Knows (S.state st.now) params.now ds → result ≡ counts (held (S.state st.now) ds) (d.ModuleType s) i }
 {
     let at = table::wide(s);
     i < st.struct_at(s).params && (256 <= at || params[at][table::wide(i)] < PHANTOM)
 }
 
 #[tactic(auto, unfolding(definition::specs::Abilities::counts))]
-fn counts(st: &State<'_>, params: &[[u8; 8]; 256], n: TypeName, i: u32) -> bool
+fn counts<S: ReadState>(st: &S, params: &[[u8; 8]; 256], n: TypeName, i: u32) -> bool
     requires { i < 8 }
-    ensures { (ds : List d.Struct) → Knows st.now params.now ds → result ≡ counts (held st.now ds) (name_of n) i }
+    ensures { (ds : List d.Struct) → Knows (S.state st.now) params.now ds → result ≡ counts (held (S.state st.now) ds) (name_of n) i }
 {
     match n {
         TypeName::Multiple(_) | TypeName::Builtin(_) => true,
@@ -85,30 +85,30 @@ fn counts(st: &State<'_>, params: &[[u8; 8]; 256], n: TypeName, i: u32) -> bool
 }
 
 // Argument i counts and lacks what is needed.
-fn lacks(
-    st: &State<'_>,
+fn lacks<S: ReadState>(
+    st: &S,
     params: &[[u8; 8]; 256],
     a: Applied,
     i: u32,
     needed: u8,
     sets: &[u32],
 ) -> bool
-    requires { ArgsReady st.now params.now sets.now a × ((i < a.many) × (0 < needed)) }
-    ensures { (ds : List d.Struct) → Knows st.now params.now ds → result ≡ lacks_at (held st.now ds) a needed i }
+    requires { ArgsReady (S.state st.now) params.now sets.now a × ((i < a.many) × (0 < needed)) }
+    ensures { (ds : List d.Struct) → Knows (S.state st.now) params.now ds → result ≡ lacks_at (held (S.state st.now) ds) a needed i }
 {
     counts(st, params, a.n, i) && !names::has(kept(sets, st.arg_at(a.first, i)), needed)
 }
 
 // The place of the first argument that counts and lacks what is needed.
-fn lacking(
-    st: &State<'_>,
+fn lacking<S: ReadState>(
+    st: &S,
     params: &[[u8; 8]; 256],
     a: Applied,
     needed: u8,
     sets: &[u32],
 ) -> Option<u32>
-    requires { ArgsReady st.now params.now sets.now a × (0 < needed) }
-    ensures { FoundIn 8 result × ((ds : List d.Struct) → Knows st.now params.now ds → result ≡ lacking (λ t. infer_abilities (held st.now ds) t) (held st.now ds) (name_of a.n) (args_at (held st.now ds) (args_of a)) needed) }
+    requires { ArgsReady (S.state st.now) params.now sets.now a × (0 < needed) }
+    ensures { FoundIn 8 result × ((ds : List d.Struct) → Knows (S.state st.now) params.now ds → result ≡ lacking (λ t. infer_abilities (held (S.state st.now) ds) t) (held (S.state st.now) ds) (name_of a.n) (args_at (held (S.state st.now) ds) (args_of a)) needed) }
 {
     (0..a.many).find(|i| lacks(st, params, a, *i, needed, sets))
 }
@@ -126,15 +126,15 @@ fn by_argument(o: Option<u32>) -> Rule
     }
 }
 
-fn apply_rule(
-    st: &State<'_>,
+fn apply_rule<S: ReadState>(
+    st: &S,
     params: &[[u8; 8]; 256],
     a: Applied,
     ability: u8,
     sets: &[u32],
 ) -> Rule
-    requires { ArgsReady st.now params.now sets.now a × (0 < ability) }
-    ensures { RuleIn result × ((ds : List d.Struct) → Knows st.now params.now ds → (k : d.AbilityMark) → rule_of result ≡ rule (held st.now ds) ability (d.Apply k (name_of a.n) (args_at (held st.now ds) (args_of a)))) }
+    requires { ArgsReady (S.state st.now) params.now sets.now a × (0 < ability) }
+    ensures { RuleIn result × ((ds : List d.Struct) → Knows (S.state st.now) params.now ds → (k : d.AbilityMark) → rule_of result ≡ rule (held (S.state st.now) ds) ability (d.Apply k (name_of a.n) (args_at (held (S.state st.now) ds) (args_of a)))) }
 {
     if !names::has(declared_abilities(st, a.n), ability) {
         return Rule::Declaration;
@@ -153,17 +153,29 @@ fn is_contradicted(r: Rule) -> bool
 // ---- infer_abilities
 
 // What is declared and no argument that counts takes away: only a mark could.
-fn granted(st: &State<'_>, params: &[[u8; 8]; 256], a: Applied, ability: u8, sets: &[u32]) -> bool
-    requires { ArgsReady st.now params.now sets.now a × (0 < ability) }
-    ensures { (ds : List d.Struct) → Knows st.now params.now ds → result ≡ granted (λ t. infer_abilities (held st.now ds) t) (held st.now ds) (name_of a.n) (args_at (held st.now ds) (args_of a)) ability }
+fn granted<S: ReadState>(
+    st: &S,
+    params: &[[u8; 8]; 256],
+    a: Applied,
+    ability: u8,
+    sets: &[u32],
+) -> bool
+    requires { ArgsReady (S.state st.now) params.now sets.now a × (0 < ability) }
+    ensures { (ds : List d.Struct) → Knows (S.state st.now) params.now ds → result ≡ granted (λ t. infer_abilities (held (S.state st.now) ds) t) (held (S.state st.now) ds) (name_of a.n) (args_at (held (S.state st.now) ds) (args_of a)) ability }
 {
     is_contradicted(apply_rule(st, params, a, ability, sets))
 }
 
 // The ability, if it is granted.
-fn granted_bit(st: &State<'_>, params: &[[u8; 8]; 256], a: Applied, ability: u8, sets: &[u32]) -> u8
-    requires { ArgsReady st.now params.now sets.now a × (0 < ability) }
-    ensures { (result ≤ ability) × ((ds : List d.Struct) → Knows st.now params.now ds → result ≡ (if granted (λ t. infer_abilities (held st.now ds) t) (held st.now ds) (name_of a.n) (args_at (held st.now ds) (args_of a)) ability then ability else 0)) }
+fn granted_bit<S: ReadState>(
+    st: &S,
+    params: &[[u8; 8]; 256],
+    a: Applied,
+    ability: u8,
+    sets: &[u32],
+) -> u8
+    requires { ArgsReady (S.state st.now) params.now sets.now a × (0 < ability) }
+    ensures { (result ≤ ability) × ((ds : List d.Struct) → Knows (S.state st.now) params.now ds → result ≡ (if granted (λ t. infer_abilities (held (S.state st.now) ds) t) (held (S.state st.now) ds) (name_of a.n) (args_at (held (S.state st.now) ds) (args_of a)) ability then ability else 0)) }
 {
     if granted(st, params, a, ability, sets) {
         ability
@@ -173,9 +185,14 @@ fn granted_bit(st: &State<'_>, params: &[[u8; 8]; 256], a: Applied, ability: u8,
 }
 
 // Four calls: a loop that adds them up is no plainer.
-fn granted_set(st: &State<'_>, params: &[[u8; 8]; 256], a: Applied, sets: &[u32]) -> AbilitySet
-    requires { ArgsReady st.now params.now sets.now a }
-    ensures { (ds : List d.Struct) → Knows st.now params.now ds → result.0 ≡ from_abilities (those (granted (λ t. infer_abilities (held st.now ds) t) (held st.now ds) (name_of a.n) (args_at (held st.now ds) (args_of a)))) }
+fn granted_set<S: ReadState>(
+    st: &S,
+    params: &[[u8; 8]; 256],
+    a: Applied,
+    sets: &[u32],
+) -> AbilitySet
+    requires { ArgsReady (S.state st.now) params.now sets.now a }
+    ensures { (ds : List d.Struct) → Knows (S.state st.now) params.now ds → result.0 ≡ from_abilities (those (granted (λ t. infer_abilities (held (S.state st.now) ds) t) (held (S.state st.now) ds) (name_of a.n) (args_at (held (S.state st.now) ds) (args_of a)))) }
 {
     let copy = granted_bit(st, params, a, COPY, sets);
     let drop = granted_bit(st, params, a, DROP, sets);
@@ -186,9 +203,9 @@ fn granted_set(st: &State<'_>, params: &[[u8; 8]; 256], a: Applied, sets: &[u32]
 
 // The set of an unfolded type whose parts' sets are kept.
 #[tactic(auto, unfolding(definition::specs::Abilities::infer_value, definition::specs::Store::with_args, definition::specs::Abilities::collection, definition::specs::Abilities::references, definition::specs::Abilities::all))]
-fn set_of(st: &State<'_>, params: &[[u8; 8]; 256], s: Shape, sets: &[u32]) -> AbilitySet
-    requires { Ready st.now params.now sets.now (parts_of s) (part_count s) }
-    ensures { (ds : List d.Struct) → Knows st.now params.now ds → result.0 ≡ infer_value (λ t. infer_abilities (held st.now ds) t) (held st.now ds) (with_args (held st.now ds) (shape_of s)) }
+fn set_of<S: ReadState>(st: &S, params: &[[u8; 8]; 256], s: Shape, sets: &[u32]) -> AbilitySet
+    requires { Ready (S.state st.now) params.now sets.now (parts_of s) (part_count s) }
+    ensures { (ds : List d.Struct) → Knows (S.state st.now) params.now ds → result.0 ≡ infer_value (λ t. infer_abilities (held (S.state st.now) ds) t) (held (S.state st.now) ds) (with_args (held (S.state st.now) ds) (shape_of s)) }
 {
     match s {
         Shape::Unit => AbilitySet::COLLECTION,
@@ -204,9 +221,9 @@ fn set_of(st: &State<'_>, params: &[[u8; 8]; 256], s: Shape, sets: &[u32]) -> Ab
 
 // The set of node t, the sets of whose parts are kept, is kept. Not inlined, so that a frame of infer is small: each level of a type is one.
 #[inline(never)]
-fn keep_set(chains: &Chains<'_, '_>, params: &[[u8; 8]; 256], t: u32, sets: &mut [u32])
-    requires { (t < chains.now.st.now.used.nodes) × (Kept chains.now.st.now params.now sets.old × PartsKept chains.now.st.now t sets.old) }
-    ensures { Inferred chains.now.st.now params.now t sets.old sets.new }
+fn keep_set<S: ReadState>(chains: &Chains<'_, S>, params: &[[u8; 8]; 256], t: u32, sets: &mut [u32])
+    requires { (t < (S.state chains.now.st.now).used.nodes) × (Kept (S.state chains.now.st.now) params.now sets.old × PartsKept (S.state chains.now.st.now) t sets.old) }
+    ensures { Inferred (S.state chains.now.st.now) params.now t sets.old sets.new }
 {
     let s = chains.goes_on(t);
     let a = set_of(chains.st, params, s, sets);
@@ -215,9 +232,15 @@ fn keep_set(chains: &Chains<'_, '_>, params: &[[u8; 8]; 256], t: u32, sets: &mut
 }
 
 // The set of node t, whose reading is over in `left` levels, is kept, and those of its parts.
-pub fn infer(chains: &Chains<'_, '_>, params: &[[u8; 8]; 256], t: u32, left: u32, sets: &mut [u32])
-    requires { (t < chains.now.st.now.used.nodes) × (Ends chains.now.st.now left t × Kept chains.now.st.now params.now sets.old) }
-    ensures { Inferred chains.now.st.now params.now t sets.old sets.new }
+pub fn infer<S: ReadState>(
+    chains: &Chains<'_, S>,
+    params: &[[u8; 8]; 256],
+    t: u32,
+    left: u32,
+    sets: &mut [u32],
+)
+    requires { (t < (S.state chains.now.st.now).used.nodes) × (Ends (S.state chains.now.st.now) left t × Kept (S.state chains.now.st.now) params.now sets.old) }
+    ensures { Inferred (S.state chains.now.st.now) params.now t sets.old sets.new }
 {
     let at = table::wide(t);
     if 256 <= sets[at] {
@@ -235,15 +258,15 @@ pub fn infer(chains: &Chains<'_, '_>, params: &[[u8; 8]; 256], t: u32, left: u32
 // ---- the rule that decided
 
 // ability_not_satisified_tips, of an unfolded type whose parts' sets are kept.
-pub fn shape_rule(
-    st: &State<'_>,
+pub fn shape_rule<S: ReadState>(
+    st: &S,
     params: &[[u8; 8]; 256],
     s: Shape,
     ability: u8,
     sets: &[u32],
 ) -> Rule
-    requires { Ready st.now params.now sets.now (parts_of s) (part_count s) × (0 < ability) }
-    ensures { RuleIn result × ((ds : List d.Struct) → Knows st.now params.now ds → rule_of result ≡ rule (held st.now ds) ability (with_args (held st.now ds) (shape_of s))) }
+    requires { Ready (S.state st.now) params.now sets.now (parts_of s) (part_count s) × (0 < ability) }
+    ensures { RuleIn result × ((ds : List d.Struct) → Knows (S.state st.now) params.now ds → rule_of result ≡ rule (held (S.state st.now) ds) ability (with_args (held (S.state st.now) ds) (shape_of s))) }
 {
     match s {
         Shape::Apply(a) => apply_rule(st, params, a, ability, sets),
@@ -254,23 +277,23 @@ pub fn shape_rule(
 // ---- what is missing
 
 // The ability is asked for, and the type, whose set is kept, has it not.
-pub fn is_missing(
-    st: &State<'_>,
+pub fn is_missing<S: ReadState>(
+    st: &S,
     params: &[[u8; 8]; 256],
     a: Asked,
     ability: u8,
     sets: &[u32],
 ) -> bool
-    requires { (a.ty < st.now.used.nodes) × ((0 < ability) × (Kept st.now params.now sets.now × HasSet sets.now a.ty)) }
-    ensures { (ds : List d.Struct) → Knows st.now params.now ds → result ≡ misses (held st.now ds) a.ty a.set.0 ability }
+    requires { (a.ty < (S.state st.now).used.nodes) × ((0 < ability) × (Kept (S.state st.now) params.now sets.now × HasSet sets.now a.ty)) }
+    ensures { (ds : List d.Struct) → Knows (S.state st.now) params.now ds → result ≡ misses (held (S.state st.now) ds) a.ty a.set.0 ability }
 {
     names::has(a.set, ability) && !names::has(kept(sets, a.ty), ability)
 }
 
 // Some ability that is asked for is missing.
-fn any_missing(st: &State<'_>, params: &[[u8; 8]; 256], a: Asked, sets: &[u32]) -> bool
-    requires { (a.ty < st.now.used.nodes) × (Kept st.now params.now sets.now × HasSet sets.now a.ty) }
-    ensures { (ds : List d.Struct) → Knows st.now params.now ds → result ≡ any_misses (held st.now ds) a.ty a.set.0 }
+fn any_missing<S: ReadState>(st: &S, params: &[[u8; 8]; 256], a: Asked, sets: &[u32]) -> bool
+    requires { (a.ty < (S.state st.now).used.nodes) × (Kept (S.state st.now) params.now sets.now × HasSet sets.now a.ty) }
+    ensures { (ds : List d.Struct) → Knows (S.state st.now) params.now ds → result ≡ any_misses (held (S.state st.now) ds) a.ty a.set.0 }
 {
     ABILITIES
         .iter()
@@ -278,30 +301,30 @@ fn any_missing(st: &State<'_>, params: &[[u8; 8]; 256], a: Asked, sets: &[u32]) 
 }
 
 // The ability is missing, and nothing but a mark takes it away. Reading the type goes on with s.
-fn contradicts(
-    st: &State<'_>,
+fn contradicts<S: ReadState>(
+    st: &S,
     params: &[[u8; 8]; 256],
     a: Asked,
     s: Shape,
     ability: u8,
     sets: &[u32],
 ) -> bool
-    requires { (a.ty < st.now.used.nodes) × ((0 < ability) × (Goes_on st.now a.ty s × (Kept st.now params.now sets.now × HasSet sets.now a.ty))) }
-    ensures { (ds : List d.Struct) → Knows st.now params.now ds → result ≡ (misses (held st.now ds) a.ty a.set.0 ability && clashes (held st.now ds) a.ty ability) }
+    requires { (a.ty < (S.state st.now).used.nodes) × ((0 < ability) × (Goes_on (S.state st.now) a.ty s × (Kept (S.state st.now) params.now sets.now × HasSet sets.now a.ty))) }
+    ensures { (ds : List d.Struct) → Knows (S.state st.now) params.now ds → result ≡ (misses (held (S.state st.now) ds) a.ty a.set.0 ability && clashes (held (S.state st.now) ds) a.ty ability) }
 {
     is_missing(st, params, a, ability, sets)
         && is_contradicted(shape_rule(st, params, s, ability, sets))
 }
 
-fn shape_contradicts(
-    st: &State<'_>,
+fn shape_contradicts<S: ReadState>(
+    st: &S,
     params: &[[u8; 8]; 256],
     a: Asked,
     s: Shape,
     sets: &[u32],
 ) -> bool
-    requires { (a.ty < st.now.used.nodes) × (Goes_on st.now a.ty s × (Kept st.now params.now sets.now × HasSet sets.now a.ty)) }
-    ensures { (ds : List d.Struct) → Knows st.now params.now ds → result ≡ any_of (clashes (held st.now ds) a.ty) (missing (held st.now ds) a.ty a.set.0) }
+    requires { (a.ty < (S.state st.now).used.nodes) × (Goes_on (S.state st.now) a.ty s × (Kept (S.state st.now) params.now sets.now × HasSet sets.now a.ty)) }
+    ensures { (ds : List d.Struct) → Knows (S.state st.now) params.now ds → result ≡ any_of (clashes (held (S.state st.now) ds) a.ty) (missing (held (S.state st.now) ds) a.ty a.set.0) }
 {
     ABILITIES
         .iter()
@@ -309,9 +332,14 @@ fn shape_contradicts(
 }
 
 // A chain of variables is walked once, and only if something is missing.
-fn any_contradicts(chains: &Chains<'_, '_>, params: &[[u8; 8]; 256], a: Asked, sets: &[u32]) -> bool
-    requires { (a.ty < chains.now.st.now.used.nodes) × (Kept chains.now.st.now params.now sets.now × HasSet sets.now a.ty) }
-    ensures { (ds : List d.Struct) → Knows chains.now.st.now params.now ds → result ≡ any_of (clashes (held chains.now.st.now ds) a.ty) (missing (held chains.now.st.now ds) a.ty a.set.0) }
+fn any_contradicts<S: ReadState>(
+    chains: &Chains<'_, S>,
+    params: &[[u8; 8]; 256],
+    a: Asked,
+    sets: &[u32],
+) -> bool
+    requires { (a.ty < (S.state chains.now.st.now).used.nodes) × (Kept (S.state chains.now.st.now) params.now sets.now × HasSet sets.now a.ty) }
+    ensures { (ds : List d.Struct) → Knows (S.state chains.now.st.now) params.now ds → result ≡ any_of (clashes (held (S.state chains.now.st.now) ds) a.ty) (missing (held (S.state chains.now.st.now) ds) a.ty a.set.0) }
 {
     any_missing(chains.st, params, a, sets)
         && shape_contradicts(chains.st, params, a, chains.goes_on(a.ty), sets)
@@ -320,17 +348,17 @@ fn any_contradicts(chains: &Chains<'_, '_>, params: &[[u8; 8]; 256], a: Asked, s
 // ---- 9 and 16: a type runs into itself; nothing but a mark takes a missing ability away
 
 // If neither is met, the set of the type is kept.
-fn check_ability_constraint(
-    chains: &Chains<'_, '_>,
+fn check_ability_constraint<S: ReadState>(
+    chains: &Chains<'_, S>,
     params: &[[u8; 8]; 256],
     a: Asked,
     heights: &mut [u16],
     sets: &mut [u32],
 ) -> Result<(), Refusal>
-    requires { (a.ty < chains.now.st.now.used.nodes) × (Measured chains.now.st.now heights.old × Kept chains.now.st.now params.now sets.old) }
-    ensures { Measured chains.now.st.now heights.new × Checked chains.now.st.now params.now sets.old sets.new result (λ s. solve_ability_constraint s a.loc a.ty a.set.0) (λ l. HasSet l a.ty) }
+    requires { (a.ty < (S.state chains.now.st.now).used.nodes) × (Measured (S.state chains.now.st.now) heights.old × Kept (S.state chains.now.st.now) params.now sets.old) }
+    ensures { Measured (S.state chains.now.st.now) heights.new × Checked (S.state chains.now.st.now) params.now sets.old sets.new result (λ s. solve_ability_constraint s a.loc a.ty a.set.0) (λ l. HasSet l a.ty) }
 {
-    let Some(n) = chains.levels(a.ty, chains.st.used.nodes, heights) else {
+    let Some(n) = chains.levels(a.ty, chains.st.used().nodes, heights) else {
         return Err(Refusal::RunsIntoItself);
     };
     infer(chains, params, a.ty, n, sets);
@@ -340,15 +368,15 @@ fn check_ability_constraint(
     Ok(())
 }
 
-fn check_constraint(
-    chains: &Chains<'_, '_>,
+fn check_constraint<S: ReadState>(
+    chains: &Chains<'_, S>,
     params: &[[u8; 8]; 256],
     c: Constraint,
     heights: &mut [u16],
     sets: &mut [u32],
 ) -> Result<(), Refusal>
-    requires { AskedIn chains.now.st.now.used.nodes (constraint_of c) × (Measured chains.now.st.now heights.old × Kept chains.now.st.now params.now sets.old) }
-    ensures { Measured chains.now.st.now heights.new × Checked chains.now.st.now params.now sets.old sets.new result (λ s. solve_constraint s (constraint_of c)) (λ l. AskedKept l (constraint_of c)) }
+    requires { AskedIn (S.state chains.now.st.now).used.nodes (constraint_of c) × (Measured (S.state chains.now.st.now) heights.old × Kept (S.state chains.now.st.now) params.now sets.old) }
+    ensures { Measured (S.state chains.now.st.now) heights.new × Checked (S.state chains.now.st.now) params.now sets.old sets.new result (λ s. solve_constraint s (constraint_of c)) (λ l. AskedKept l (constraint_of c)) }
 {
     match c {
         Constraint::Ability(loc, ty, set) => {
@@ -359,16 +387,16 @@ fn check_constraint(
 }
 
 // The first refusal in list order is that of all. If there is none, the set of each type that is asked for abilities is kept.
-fn check_in_turn(
-    chains: &Chains<'_, '_>,
+fn check_in_turn<S: ReadState>(
+    chains: &Chains<'_, S>,
     params: &[[u8; 8]; 256],
     heights: &mut [u16],
     sets: &mut [u32],
 ) -> Result<(), Refusal>
-    requires { AllAsked (tables chains.now.st.now) × (Measured chains.now.st.now heights.old × Kept chains.now.st.now params.now sets.old) }
-    ensures { Checked chains.now.st.now params.now sets.old sets.new result failures (λ l. AllKept l (tables chains.now.st.now).constraints) }
+    requires { AllAsked (tables (S.state chains.now.st.now)) × (Measured (S.state chains.now.st.now) heights.old × Kept (S.state chains.now.st.now) params.now sets.old) }
+    ensures { Checked (S.state chains.now.st.now) params.now sets.old sets.new result failures (λ l. AllKept l (tables (S.state chains.now.st.now)).constraints) }
 {
-    for i in 0..chains.st.used.constraints {
+    for i in 0..chains.st.used().constraints {
         let c = chains.st.constraint_at(i);
         check_constraint(chains, params, c, heights, sets)?;
     }
@@ -376,14 +404,14 @@ fn check_in_turn(
 }
 
 // .. The ends of all chains are noted first.
-pub fn check_constraints(
-    st: &State<'_>,
+pub fn check_constraints<S: ReadState>(
+    st: &S,
     params: &[[u8; 8]; 256],
     heights: &mut [u16],
     sets: &mut [u32],
 ) -> Result<(), Refusal>
-    requires { AllAsked (tables st.now) × (Measured st.now heights.old × Kept st.now params.now sets.old) }
-    ensures { Checked st.now params.now sets.old sets.new result failures (λ l. AllKept l (tables st.now).constraints) }
+    requires { AllAsked (tables (S.state st.now)) × (Measured (S.state st.now) heights.old × Kept (S.state st.now) params.now sets.old) }
+    ensures { Checked (S.state st.now) params.now sets.old sets.new result failures (λ l. AllKept l (tables (S.state st.now)).constraints) }
 {
     let mut ends: [u32; 1024] = [0; 1024];
     ends::note_ends(st, &mut ends);
@@ -401,8 +429,8 @@ fn asks_abilities(c: Constraint) -> bool
 }
 
 // Some constraint asks for abilities, so that a table of sets is needed.
-pub fn any_asks(st: &State<'_>) -> bool
-    ensures { result ≡ any_asks (tables st.now).constraints }
+pub fn any_asks<S: ReadState>(st: &S) -> bool
+    ensures { result ≡ any_asks (tables (S.state st.now)).constraints }
 {
-    (0..st.used.constraints).any(|i| asks_abilities(st.constraint_at(i)))
+    (0..st.used().constraints).any(|i| asks_abilities(st.constraint_at(i)))
 }

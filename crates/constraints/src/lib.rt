@@ -28,6 +28,7 @@ use failing::{Failing, ask_of, good};
 use names::{AbilitySet, COPY, TVar, TypeName, U64, U128, U256};
 use snapshot::zero_rows;
 use subst::Unfolded;
+use table::read::ReadState;
 use table::state::{State, Stop};
 use table::{CONSTRAINT_WORDS, CONSTRAINTS_AT, Constraint, Shape, VAR_WORDS};
 
@@ -71,8 +72,8 @@ pub fn single_type_constraint(st: &mut State<'_>, loc: u32, ty: u32) -> Result<(
 
 // ---- numeric variables that nothing decides become u64, or wider where more bits are needed
 
-fn undecided_var(st: &State<'_>, num_var: TVar, loc: u32) -> bool
-    ensures { (ds : List d.Struct) → result ≡ undecided (unfold_type (held st.now ds) (var_at loc num_var.0)).value }
+fn undecided_var<S: ReadState>(st: &S, num_var: TVar, loc: u32) -> bool
+    ensures { (ds : List d.Struct) → result ≡ undecided (unfold_type (held (S.state st.now) ds) (var_at loc num_var.0)).value }
 {
     match subst::unfold_tvar(st, loc, num_var) {
         Unfolded::Node(t) => shapes::undecided(st.node_at(t).shape),
@@ -95,8 +96,8 @@ fn default_builtin(need: u32) -> u32
 }
 
 // .. that the end of the variable's chain needs.
-fn default_at(st: &State<'_>, num_var: TVar) -> u32
-    ensures { (ds : List d.Struct) → result ≡ default_builtin (need_of (held st.now ds) (forward_tvar (held st.now ds) num_var.0)) }
+fn default_at<S: ReadState>(st: &S, num_var: TVar) -> u32
+    ensures { (ds : List d.Struct) → result ≡ default_builtin (need_of (held (S.state st.now) ds) (forward_tvar (held (S.state st.now) ds) num_var.0)) }
 {
     let last = subst::forward_tvar(st, num_var).tvar;
     default_builtin(st.need_at(last))
@@ -159,9 +160,9 @@ pub fn take_constraints(st: &mut State<'_>)
 // ---- which constraints fail, and how
 
 // The failure of a constraint that asks for no abilities, if it fails.
-fn failing_of(st: &State<'_>, c: Constraint) -> Option<Failing>
-    requires { TyIn st.now.used.nodes (constraint_of c) }
-    ensures { Fails st.now result (constraint_of c) }
+fn failing_of<S: ReadState>(st: &S, c: Constraint) -> Option<Failing>
+    requires { TyIn (S.state st.now).used.nodes (constraint_of c) }
+    ensures { Fails (S.state st.now) result (constraint_of c) }
 {
     let a = ask_of(c)?;
     let (shape, failing) = match subst::unfold_type(st, a.ty) {
@@ -187,15 +188,15 @@ fn by_rule(loc: u32, ability: u8, t: u32, r: Rule) -> Option<Failing>
 }
 
 // The failure for one ability, of a type whose set is kept. `_` has every ability. A chain of variables is walked only if the ability is missing.
-fn lack_of(
-    st: &State<'_>,
+fn lack_of<S: ReadState>(
+    st: &S,
     params: &[[u8; 8]; 256],
     sets: &[u32],
     a: Asked,
     ability: u8,
 ) -> Option<Failing>
-    requires { (a.ty < st.now.used.nodes) × (IsAbility ability × (Kept st.now params.now sets.now × HasSet sets.now a.ty)) }
-    ensures { Lacking st.now params.now result (λ s. lack s a.loc a.ty a.set.0 ability) }
+    requires { (a.ty < (S.state st.now).used.nodes) × (IsAbility ability × (Kept (S.state st.now) params.now sets.now × HasSet sets.now a.ty)) }
+    ensures { Lacking (S.state st.now) params.now result (λ s. lack s a.loc a.ty a.set.0 ability) }
 {
     if !abilities::is_missing(st, params, a, ability, sets) {
         return None;
@@ -211,9 +212,9 @@ fn lack_of(
 }
 
 // A constraint that asks for no abilities fails once: in the first ability's row.
-fn first_row(st: &State<'_>, c: Constraint, ability: u8) -> Option<Failing>
-    requires { TyIn st.now.used.nodes (constraint_of c) }
-    ensures { ReportIn st.now.used.nodes result × ((ds : List d.Struct) → report result (held st.now ds) ≡ (if nat_eq ability 1 then plain (held st.now ds) (constraint_of c) else [])) }
+fn first_row<S: ReadState>(st: &S, c: Constraint, ability: u8) -> Option<Failing>
+    requires { TyIn (S.state st.now).used.nodes (constraint_of c) }
+    ensures { ReportIn (S.state st.now).used.nodes result × ((ds : List d.Struct) → report result (held (S.state st.now) ds) ≡ (if nat_eq ability 1 then plain (held (S.state st.now) ds) (constraint_of c) else [])) }
 {
     if ability == COPY {
         failing_of(st, c)
@@ -223,15 +224,15 @@ fn first_row(st: &State<'_>, c: Constraint, ability: u8) -> Option<Failing>
 }
 
 // The failure of a constraint in the row of an ability. first_row is called at one place so that it is inlined.
-pub fn row_of(
-    st: &State<'_>,
+pub fn row_of<S: ReadState>(
+    st: &S,
     params: &[[u8; 8]; 256],
     sets: &[u32],
     c: Constraint,
     ability: u8,
 ) -> Option<Failing>
-    requires { TyIn st.now.used.nodes (constraint_of c) × (IsAbility ability × AskedReady st.now params.now sets.now (constraint_of c)) }
-    ensures { Lacking st.now params.now result (λ s. row s (constraint_of c) ability) }
+    requires { TyIn (S.state st.now).used.nodes (constraint_of c) × (IsAbility ability × AskedReady (S.state st.now) params.now sets.now (constraint_of c)) }
+    ensures { Lacking (S.state st.now) params.now result (λ s. row s (constraint_of c) ability) }
 {
     match c {
         Constraint::Ability(loc, ty, set) => {

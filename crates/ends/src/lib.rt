@@ -13,7 +13,7 @@ mod chains;
 
 pub use chains::{Chains, Led};
 use names::TVar;
-use table::state::State;
+use table::read::ReadState;
 
 // Where following a chain led to: one more than the number of its end, and how many bindings it and the noted chains have at most.
 #[derive(Clone, Copy)]
@@ -35,12 +35,12 @@ fn one_more(v: TVar) -> u32
 
 // Goes from v to its end, or to a variable whose end is noted. The chains that are noted have at most `longest` bindings:
 // counted, since forward_tvar takes no more steps than there are variables.
-fn meet(st: &State<'_>, v: TVar, longest: u32, ends: &[u32]) -> Option<Meeting>
-    requires { Noted st.now longest ends.now }
-    ensures { Meets st.now v.0 longest result }
+fn meet<S: ReadState>(st: &S, v: TVar, longest: u32, ends: &[u32]) -> Option<Meeting>
+    requires { Noted (S.state st.now) longest ends.now }
+    ensures { Meets (S.state st.now) v.0 longest result }
 {
     let mut cur = v;
-    for long in longest..st.used.vars + 1 {
+    for long in longest..st.used().vars + 1 {
         let known = table::noted(ends, cur);
         if 0 < known {
             return Some(Meeting { end: known, long });
@@ -57,12 +57,12 @@ fn meet(st: &State<'_>, v: TVar, longest: u32, ends: &[u32]) -> Option<Meeting>
 }
 
 // Notes the end x of v's chain for v and its links, up to one whose end is noted.
-fn note_chain(st: &State<'_>, v: TVar, x: u32, long: u32, ends: &mut [u32])
-    requires { Noted st.now long ends.old × EndsBy st.now v.0 long x }
-    ensures { Noted st.now long ends.new }
+fn note_chain<S: ReadState>(st: &S, v: TVar, x: u32, long: u32, ends: &mut [u32])
+    requires { Noted (S.state st.now) long ends.old × EndsBy (S.state st.now) v.0 long x }
+    ensures { Noted (S.state st.now) long ends.new }
 {
     let mut cur = v;
-    for _ in 0..st.used.vars {
+    for _ in 0..st.used().vars {
         if 0 < table::noted(ends, cur) {
             return;
         }
@@ -75,9 +75,9 @@ fn note_chain(st: &State<'_>, v: TVar, x: u32, long: u32, ends: &mut [u32])
 }
 
 // Notes v's chain; how many bindings the noted chains have at most is the answer.
-fn note_end(st: &State<'_>, v: TVar, longest: u32, ends: &mut [u32]) -> u32
-    requires { (longest ≤ st.now.used.vars) × Noted st.now longest ends.old }
-    ensures { (result ≤ st.now.used.vars) × Noted st.now result ends.new }
+fn note_end<S: ReadState>(st: &S, v: TVar, longest: u32, ends: &mut [u32]) -> u32
+    requires { (longest ≤ (S.state st.now).used.vars) × Noted (S.state st.now) longest ends.old }
+    ensures { (result ≤ (S.state st.now).used.vars) × Noted (S.state st.now) result ends.new }
 {
     match meet(st, v, longest, ends) {
         Some(m) => {
@@ -89,12 +89,12 @@ fn note_end(st: &State<'_>, v: TVar, longest: u32, ends: &mut [u32]) -> u32
 }
 
 // Notes the end of every variable's chain. Each binding is followed twice at most.
-pub fn note_ends(st: &State<'_>, ends: &mut [u32])
-    requires { Noted st.now 0 ends.old }
-    ensures { EndsKnown st.now ends.new × (length ends.new ≡ 1024) }
+pub fn note_ends<S: ReadState>(st: &S, ends: &mut [u32])
+    requires { Noted (S.state st.now) 0 ends.old }
+    ensures { EndsKnown (S.state st.now) ends.new × (length ends.new ≡ 1024) }
 {
     let mut longest: u32 = 0;
-    for i in 0..st.used.vars {
+    for i in 0..st.used().vars {
         longest = note_end(st, table::tvar(i), longest, ends);
     }
 }
@@ -102,18 +102,18 @@ pub fn note_ends(st: &State<'_>, ends: &mut [u32])
 // ---- a type that reaches a variable that reaches itself
 
 // A type of at most 64 parts needs no heights, and no ends are noted for it.
-pub fn near_over(st: &State<'_>, t: u32) -> bool
-    requires { t < st.now.used.nodes }
-    ensures { result ≡ true → (ds : List d.Struct) → false ≡ reaches_itself (held st.now ds) t }
+pub fn near_over<S: ReadState>(st: &S, t: u32) -> bool
+    requires { t < (S.state st.now).used.nodes }
+    ensures { result ≡ true → (ds : List d.Struct) → false ≡ reaches_itself (held (S.state st.now) ds) t }
 {
     let chains = Chains { st, ends: &[] };
-    chains.soon_over(t, st.used.nodes, 64).is_some()
+    chains.soon_over(t, st.used().nodes, 64).is_some()
 }
 
 // First without tables, which a small type does not need: a guard, since in one boolean with the rest they would be made before it.
-pub fn reaches_itself(st: &State<'_>, t: u32) -> bool
-    requires { t < st.now.used.nodes }
-    ensures { (ds : List d.Struct) → result ≡ reaches_itself (held st.now ds) t }
+pub fn reaches_itself<S: ReadState>(st: &S, t: u32) -> bool
+    requires { t < (S.state st.now).used.nodes }
+    ensures { (ds : List d.Struct) → result ≡ reaches_itself (held (S.state st.now) ds) t }
 {
     if near_over(st, t) {
         return false;

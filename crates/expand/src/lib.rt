@@ -28,6 +28,7 @@ use names::{AbilitySet, TypeName};
 use payload::{Answer, MAX_PAYLOAD};
 use refusals::Refusal;
 use snapshot::before::Before;
+use table::read::ReadState;
 use table::state::State;
 use table::{Applied, Node, Shape};
 
@@ -73,7 +74,7 @@ fn is_marked(shape: Shape) -> bool
 }
 
 // Whether reading node t, which is over in `left` levels, comes to one. A node that does not is noted in `clear`: each is read once.
-fn comes_to_marked(chains: &Chains<'_, '_>, t: u32, left: u32, clear: &mut [u8]) -> bool
+fn comes_to_marked(chains: &Chains<'_, State<'_>>, t: u32, left: u32, clear: &mut [u8]) -> bool
     requires { (t < chains.now.st.now.used.nodes) × (Ends chains.now.st.now left t × Clears chains.now.st.now clear.old) }
     ensures { Comes chains.now.st.now t left result × Clears chains.now.st.now clear.new }
 {
@@ -95,7 +96,7 @@ fn comes_to_marked(chains: &Chains<'_, '_>, t: u32, left: u32, clear: &mut [u8])
     false
 }
 
-fn has_marked(chains: &Chains<'_, '_>, t: u32) -> bool
+fn has_marked(chains: &Chains<'_, State<'_>>, t: u32) -> bool
     requires { (t < chains.now.st.now.used.nodes) × Ends chains.now.st.now chains.now.st.now.used.nodes t }
     ensures { (ds : List d.Struct) → result ≡ marked_in chains.now.st.now.used.nodes (held chains.now.st.now ds) t }
 {
@@ -107,7 +108,7 @@ fn has_marked(chains: &Chains<'_, '_>, t: u32) -> bool
 
 // What type t leads to, with its location: a node, or an open variable, which stands where it is met.
 // Refused: another location for an open variable (code_at_the_binding).
-fn leads_to(chains: &Chains<'_, '_>, t: u32) -> Node
+fn leads_to(chains: &Chains<'_, State<'_>>, t: u32) -> Node
     requires { t < chains.now.st.now.used.nodes }
     ensures { Leads chains.now.st.now t result }
 {
@@ -177,7 +178,7 @@ fn write_own(
 // ---- a type with its parts
 
 // How much of `room` the type and its codes leave, in `left` levels; none: they are longer. No set is looked at.
-fn size(chains: &Chains<'_, '_>, t: u32, left: u32, room: u32) -> Option<u32>
+fn size(chains: &Chains<'_, State<'_>>, t: u32, left: u32, room: u32) -> Option<u32>
     requires { t < chains.now.st.now.used.nodes }
     ensures { (ds : List d.Struct) (set : ℕ → ℕ) → Leaves room (length (told Types set left (held chains.now.st.now ds) t) + length (told Codes set left (held chains.now.st.now ds) t)) result }
 {
@@ -196,7 +197,7 @@ fn size(chains: &Chains<'_, '_>, t: u32, left: u32, room: u32) -> Option<u32>
 // That half of the type's bytes, which fit; the place after them.
 // Refused: the set of an argument in a name's mark (set_of_the_part).
 fn write(
-    chains: &Chains<'_, '_>,
+    chains: &Chains<'_, State<'_>>,
     sets: &[u32],
     t: u32,
     left: u32,
@@ -226,7 +227,12 @@ fn write(
 // ---- XP
 
 // What fits: the sets are kept, one a node, and the type is written and then its codes.
-fn spell_sized(chains: &Chains<'_, '_>, params: &[[u8; 8]; 256], t: u32, buf: &mut [u8]) -> usize
+fn spell_sized(
+    chains: &Chains<'_, State<'_>>,
+    params: &[[u8; 8]; 256],
+    t: u32,
+    buf: &mut [u8],
+) -> usize
     requires in_use { (t < chains.now.st.now.used.nodes) × (AllBytes (tables chains.now.st.now) × (Declared chains.now.st.now.words.now chains.now.st.now.used params.now × (4096 ≤ length buf.old))) }
     requires ends { Ends chains.now.st.now chains.now.st.now.used.nodes t }
     requires fits { (ds : List d.Struct) (set : ℕ → ℕ) → length (told Types set chains.now.st.now.used.nodes (held chains.now.st.now ds) t) + length (told Codes set chains.now.st.now.used.nodes (held chains.now.st.now ds) t) ≤ 4096 }
@@ -241,7 +247,7 @@ fn spell_sized(chains: &Chains<'_, '_>, params: &[[u8; 8]; 256], t: u32, buf: &m
 
 // A type that does not run into itself.
 fn spell_over(
-    chains: &Chains<'_, '_>,
+    chains: &Chains<'_, State<'_>>,
     params: &[[u8; 8]; 256],
     t: u32,
     buf: &mut [u8],

@@ -20,6 +20,7 @@ use constraints::row_of;
 use failing::{size_failing, write_failing};
 use payload::MAX_PAYLOAD;
 use table::Constraint;
+use table::read::ReadState;
 use table::state::State;
 
 // The loops go by number. Tried over `&ABILITIES[..n]`: it stayed open that its items are n, and each the ability of its row.

@@ -21,6 +21,7 @@ use names::{AbilitySet, TParamID, TVar};
 use needs::{Sums, count_type};
 use reader::read_type;
 use refusals::Refusal;
+use table::read::ReadState;
 use table::state::State;
 
 // ---- a record that is read, its types placed as nodes
@@ -138,10 +139,10 @@ pub fn read_two(
 
 // ---- one type, counted and not placed
 
-pub fn read_rm(st: &State<'_>, r: &mut Reader, known: u32) -> Result<Option<What>, Refusal>
-    requires few_params { Arities (tables st.now).structs }
+pub fn read_rm<S: ReadState>(st: &S, r: &mut Reader, known: u32) -> Result<Option<What>, Refusal>
+    requires few_params { Arities (tables (S.state st.now)).structs }
     requires short { length r.old.left.now ≤ 4096 }
-    ensures is { (names : List ℕ) → FieldsAre names st.now known (λ s. read_one RM (read_type s) r.old.left.now) st.now r.new.left.now result }
+    ensures is { (names : List ℕ) → FieldsAre names (S.state st.now) known (λ s. read_one RM (read_type s) r.old.left.now) (S.state st.now) r.new.left.now result }
     ensures within { Within r.old.left.now r.new.left.now }
 {
     let sums = count_type(st, r, known, 64, false)?;

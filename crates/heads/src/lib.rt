@@ -19,7 +19,7 @@ use names::{
     is_numeric,
 };
 use refusals::Refusal;
-use table::state::State;
+use table::read::ReadState;
 use table::{Applied, Shape};
 
 // A type without its parts: its location, and its tag and fields as a shape. No Node, whose shape names its parts: here none is placed yet.
@@ -124,14 +124,14 @@ fn list_fields(r: &mut Reader) -> Result<Shape, Refusal>
     }))
 }
 
-fn struct_fields(st: &State<'_>, r: &mut Reader) -> Result<Shape, Refusal>
-    requires { Arities (tables st.now).structs }
-    ensures begins { (s : d.State) → Declares st.now.words.now st.now.used s.structs → (loc : ℕ) (part : Reading Tree) → parts_read loc result r.new.left.now part ≡ read_apply s part loc read_u16 d.ModuleType unknown_name r.old.left.now }
+fn struct_fields<S: ReadState>(st: &S, r: &mut Reader) -> Result<Shape, Refusal>
+    requires { Arities (tables (S.state st.now)).structs }
+    ensures begins { (s : d.State) → Declares (S.state st.now).words.now (S.state st.now).used s.structs → (loc : ℕ) (part : Reading Tree) → parts_read loc result r.new.left.now part ≡ read_apply s part loc read_u16 d.ModuleType unknown_name r.old.left.now }
     ensures few { Few result }
     ensures within { Within r.old.left.now r.new.left.now }
 {
     let k = read_mark(r)?;
-    let n = u32::from(r.name_below(st.used.structs)?);
+    let n = u32::from(r.name_below(st.used().structs)?);
     let many = st.struct_at(n).params;
     Ok(Shape::Apply(Applied {
         k,
@@ -152,10 +152,16 @@ fn var_fields(r: &mut Reader, known: u32) -> Result<Shape, Refusal>
 
 // By the tag, from 0 to 8; a part may nest `left` deep. Inlined, as read_head is: a shape that a call gives back goes through memory.
 #[inline(always)]
-fn fields(st: &State<'_>, r: &mut Reader, known: u32, left: u32, tag: u8) -> Result<Shape, Refusal>
-    requires few_params { Arities (tables st.now).structs }
+fn fields<S: ReadState>(
+    st: &S,
+    r: &mut Reader,
+    known: u32,
+    left: u32,
+    tag: u8,
+) -> Result<Shape, Refusal>
+    requires few_params { Arities (tables (S.state st.now)).structs }
     requires is_tag { tag ≤ 8 }
-    ensures begins { (s : d.State) (ds : List d.Struct) → Declares st.now.words.now st.now.used ds → Knows s known ds → (loc : ℕ) (part : Reading Tree) → parts_read loc result r.new.left.now part ≡ get_or (by_tag s part loc left) tag (refuse malformed) r.old.left.now }
+    ensures begins { (s : d.State) (ds : List d.Struct) → Declares (S.state st.now).words.now (S.state st.now).used ds → Knows s known ds → (loc : ℕ) (part : Reading Tree) → parts_read loc result r.new.left.now part ≡ get_or (by_tag s part loc left) tag (refuse malformed) r.old.left.now }
     ensures few { Few result }
     ensures within { Within r.old.left.now r.new.left.now }
 {
@@ -174,9 +180,14 @@ fn fields(st: &State<'_>, r: &mut Reader, known: u32, left: u32, tag: u8) -> Res
 
 // Tag, location and fields of a type at most `nest` deep.
 #[inline(always)]
-pub fn read_head(st: &State<'_>, r: &mut Reader, known: u32, nest: u32) -> Result<Head, Refusal>
-    requires { Arities (tables st.now).structs }
-    ensures reads { (s : d.State) (ds : List d.Struct) → Declares st.now.words.now st.now.used ds → Knows s known ds → tree_read result r.new.left.now (read_nested (nest - 1) s) ≡ read_nested nest s r.old.left.now }
+pub fn read_head<S: ReadState>(
+    st: &S,
+    r: &mut Reader,
+    known: u32,
+    nest: u32,
+) -> Result<Head, Refusal>
+    requires { Arities (tables (S.state st.now)).structs }
+    ensures reads { (s : d.State) (ds : List d.Struct) → Declares (S.state st.now).words.now (S.state st.now).used ds → Knows s known ds → tree_read result r.new.left.now (read_nested (nest - 1) s) ≡ read_nested nest s r.old.left.now }
     ensures few { IfOk result (λ h. (many_parts h.shape ≤ 8) × (0 < nest)) }
     ensures within { Within r.old.left.now r.new.left.now }
 {

@@ -17,6 +17,7 @@ ghost use Rattle.history.specs.Holding.{Holds-prop};
 pub mod rows;
 
 use names::{AbilityMark, TVar, TypeName};
+use table::read::ReadState;
 use table::state::{State, Stop};
 use table::{Node, Shape};
 

@@ -8,6 +8,7 @@ ghost use Rattle.history.specs.Rows.{Loads, LoadedBindings, LoadedMarks, entries
 
 use crate::{Binding, Mark, Past};
 use snapshot::copy_all;
+use table::read::ReadState;
 use table::state::State;
 use table::{Touched, Used, VAR_WORDS, VARS_AT, wide};
 

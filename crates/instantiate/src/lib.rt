@@ -18,6 +18,7 @@ ghost use Rattle.instantiate.specs.Args.{make_tparam, made, Made, joined};
 use join::Types;
 use names::{AbilitySet, PHANTOM, TVar, TypeName};
 use refusals::Refusal;
+use table::read::ReadState;
 use table::state::{State, Stop};
 use table::{Applied, Constraint, Shape};
 

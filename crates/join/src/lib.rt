@@ -17,6 +17,7 @@ use arms::{Arm, TypingCase};
 use merge::VarAt;
 use names::MAX_DEPTH;
 use refusals::Refusal;
+use table::read::ReadState;
 use table::state::{State, Stop};
 use table::{Applied, Shape, TypingError};
 

@@ -4,6 +4,7 @@ ghost use Rattle.std.specs.Prelude.{◌≡◌, ◌+◌, ◌≤◌, ◌<◌, fals
 ghost use Rattle.table.specs.Did.{tables};
 ghost use Rattle.keep.specs.Placed.{MarksRun, MarksPlaces, PlacesMarked};
 
+use table::read::ReadState;
 use table::state::State;
 use table::{Shape, wide};
 

@@ -10,6 +10,7 @@ ghost use Rattle.keep.specs.Marked.{thing_of, constraint_node, Fits, MarksAll, B
 use crate::marks::{Marks, Thing};
 use names::TVar;
 use table::Constraint;
+use table::read::ReadState;
 use table::state::State;
 
 // The node that a constraint is on.

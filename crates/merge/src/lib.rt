@@ -10,6 +10,7 @@ ghost use Rattle.merge.specs.Merge.{open_ends, open_tvar, show_both, close_tvar,
 
 use names::TVar;
 use subst::BindError;
+use table::read::ReadState;
 use table::state::{State, Stop};
 use table::{Shape, TypingError};
 

@@ -13,7 +13,7 @@ use heads::{Head, read_head};
 use reader::part_count;
 use refusals::Refusal;
 use table::Shape;
-use table::state::State;
+use table::read::ReadState;
 
 // Nodes, argument places, variables and constraints.
 #[derive(Clone, Copy)]
@@ -91,16 +91,16 @@ fn is_apply(shape: Shape) -> bool
 // A type at most `nest` deep; arg: it is an argument of a name, a flag, as nothing comes with it. Of at most 4,096 bytes, whose sums fit. A walk
 // beside reader's: one over both would have to say what placing and counting have in common, which is the reading alone, in heads.
 #[cycle(count_parts_count_type)]
-pub fn count_type(
-    st: &State<'_>,
+pub fn count_type<S: ReadState>(
+    st: &S,
     r: &mut Reader,
     known: u32,
     nest: u32,
     arg: bool,
 ) -> Result<Option<Sums>, Refusal>
-    requires few_params { Arities (tables st.now).structs }
+    requires few_params { Arities (tables (S.state st.now)).structs }
     requires short { length r.old.left.now ≤ 4096 }
-    ensures is { Counts st.now known arg (λ s. read_nested nest s r.old.left.now) r.new.left.now result }
+    ensures is { Counts (S.state st.now) known arg (λ s. read_nested nest s r.old.left.now) r.new.left.now result }
     ensures within { Within r.old.left.now r.new.left.now }
 {
     let head = read_head(st, r, known, nest)?;
@@ -109,18 +109,18 @@ pub fn count_type(
 
 // Its parts, beside itself.
 #[cycle(count_parts_count_type)]
-fn count_parts(
-    st: &State<'_>,
+fn count_parts<S: ReadState>(
+    st: &S,
     r: &mut Reader,
     known: u32,
     nest: u32,
     arg: bool,
     head: Head,
 ) -> Result<Option<Sums>, Refusal>
-    requires few_params { Arities (tables st.now).structs }
+    requires few_params { Arities (tables (S.state st.now)).structs }
     requires few { many_parts head.shape ≤ 8 }
     requires short { length r.old.left.now ≤ 4096 }
-    ensures is { Counts st.now known arg (λ s. tree_read (Ok head) r.old.left.now (read_nested nest s)) r.new.left.now result }
+    ensures is { Counts (S.state st.now) known arg (λ s. tree_read (Ok head) r.old.left.now (read_nested nest s)) r.new.left.now result }
     ensures within { Within r.old.left.now r.new.left.now }
 {
     let n = part_count(head.shape);

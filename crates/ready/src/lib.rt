@@ -16,6 +16,7 @@ use ends::{Chains, Led, note_ends};
 use names::{MAX_ARGS, MAX_NODES};
 use refusals::Refusal;
 use table::Shape;
+use table::read::ReadState;
 use table::state::State;
 
 const MAX_PAYLOAD: u32 = 4096;
@@ -64,7 +65,7 @@ fn plus(a: Sums, b: Sums) -> Sums
 }
 
 // What type t comes to, if it is over in `left` levels and has no more than `budget` types.
-fn measure(chains: &Chains<'_, '_>, t: u32, left: u32, budget: u32) -> Option<Sums>
+fn measure(chains: &Chains<'_, State<'_>>, t: u32, left: u32, budget: u32) -> Option<Sums>
     requires { (t < chains.now.st.now.used.nodes) × (budget ≤ 65536) }
     ensures { Measures chains.now.st.now t left budget result }
 {
@@ -92,7 +93,7 @@ fn measure(chains: &Chains<'_, '_>, t: u32, left: u32, budget: u32) -> Option<Su
 
 // The bytes of type t, which fit, as `heads` has them; the place after them.
 fn write_spelled<H: Heads>(
-    chains: &Chains<'_, '_>,
+    chains: &Chains<'_, State<'_>>,
     t: u32,
     left: u32,
     heads: &mut H,
@@ -125,7 +126,13 @@ fn write_spelled<H: Heads>(
 
 // .. as a record's answer has them. The names are made here, once measuring is over: its levels take the most stack.
 #[inline(never)]
-fn write_by(chains: &Chains<'_, '_>, t: u32, left: u32, spelling: Spelling, buf: &mut [u8]) -> usize
+fn write_by(
+    chains: &Chains<'_, State<'_>>,
+    t: u32,
+    left: u32,
+    spelling: Spelling,
+    buf: &mut [u8],
+) -> usize
     requires in_use { (t < chains.now.st.now.used.nodes) × (AllBytes (tables chains.now.st.now) × AllNumbered (tables chains.now.st.now)) }
     requires fits { (ds : List d.Struct) → summed head_size left (held chains.now.st.now ds) t ≤ length buf.old }
     ensures { (ds : List d.Struct) → Wrote buf.old 0 (led_bytes (spelling_of spelling) left (held chains.now.st.now ds) t) buf.new result }
@@ -140,7 +147,7 @@ fn write_by(chains: &Chains<'_, '_>, t: u32, left: u32, spelling: Spelling, buf:
 
 // What was measured, in as many levels as there are nodes, is written if it fits.
 fn spell_measured(
-    chains: &Chains<'_, '_>,
+    chains: &Chains<'_, State<'_>>,
     t: u32,
     m: Sums,
     spelling: Spelling,

@@ -15,7 +15,7 @@ ghost use Rattle.shapes.specs.Parts.{next, part_count};
 
 use names::{TVar, TypeName};
 use table::Shape;
-use table::state::State;
+use table::read::ReadState;
 
 // ---- tests
 
@@ -92,8 +92,8 @@ pub fn part_count(s: Shape) -> u32
 }
 
 // Part i of a type.
-pub fn part_at(st: &State<'_>, s: Shape, i: u32) -> u32
-    ensures { (ds : List d.Struct) → i < part_count (shape_of s) → result ≡ get_or (parts (with_args (held st.now ds) (shape_of s))) i 0 }
+pub fn part_at<S: ReadState>(st: &S, s: Shape, i: u32) -> u32
+    ensures { (ds : List d.Struct) → i < part_count (shape_of s) → result ≡ get_or (parts (with_args (held (S.state st.now) ds) (shape_of s))) i 0 }
 {
     match s {
         Shape::Ref(_, t) => t,

@@ -5,10 +5,12 @@ use mathlib.Core.Logic.{inl, inr}
 use native.Mathlib.Omega.{arith}
 use native.Mathlib.Nat.{div-add-mod', mod-lt}
 use native.Mathlib.Decide.{dec_lt}
-use lib.ListN.{get_or}
+use lib.ListN.{get_or, length, take, drop}
+use Rattle.std.proofs.lemmas.List.{get_or-take, get_or-drop}
 use Prim.Native.Nat.{ℕ, ◌+◌, ◌*◌, ◌-◌, ◌/◌, ◌%◌, ◌≤◌, ◌<◌}
 use Rattle.table.specs.State.{Wrote}
 use Rattle.table.specs.declared.state.State.{State}
+use Rattle.table.specs.declared.Used.{Used}
 use Rattle.snapshot.specs.Snap.{Saved}
 use Rattle.snapshot.specs.Copied.{Copied}
 use Rattle.snapshot.specs.Noted.{Noted}
@@ -42,3 +44,13 @@ module _ (s : State) (n : ℕ) (saved saved₁ : List ℕ) (few : n ≤ s.saved)
             let e : n * 5 + (k - n * 5) ≡ k = omega arith in
             let f : 16389 + n * 5 + (k - n * 5) ≡ 16389 + k = omega arith in
             ap (λ (x : ℕ). get_or saved₂ x 0) (sym e) ∙ z.here (k - n * 5) (omega arith) ∙ new (k - n * 5) (omega arith) ∙ ap (λ (x : ℕ). get_or s.words.now x 0) f
+
+-- .. copied at once
+pub copied_all : (w : List ℕ) (u : Used) (saved saved₁ : List ℕ) (m : ℕ) → m ≡ u.vars * 5 → length (take m (drop 16389 w)) ≡ m
+    → Wrote saved 0 (length (take m (drop 16389 w))) (take m (drop 16389 w)) saved₁ → Saved w u saved₁
+copied_all w u saved saved₁ m e many z = record {
+  word = λ k h.
+      let lt : k < m = omega (arith, e) in
+      let at : 0 + k ≡ k = omega arith in
+      ap (λ (x : ℕ). get_or saved₁ x 0) (sym at) ∙ z.here k (omega (arith, many)) ∙ get_or-take m (drop 16389 w) k 0 lt ∙ get_or-drop 16389 w k 0;
+}

@@ -13,6 +13,7 @@ ghost use Rattle.snapshot.specs.Noted.{Noted, SavesAll};
 pub mod before;
 
 use before::Before;
+use table::read::ReadState;
 use table::state::State;
 use table::{
     ARGS_AT, CONSTRAINT_WORDS, CONSTRAINTS_AT, NODE_WORDS, NODES_AT, STRUCT_WORDS, STRUCTS_AT,
@@ -112,6 +113,16 @@ pub fn save_vars(st: &mut State<'_>, saved: &mut [u32])
     save_rows(st, saved);
     st.saved = st.used.vars;
     st.touched = Touched::Nothing;
+}
+
+// .. of a state that is only read: all of them, since it cannot note that they are saved.
+// Refused (must-fail/): the last fifth of the rows left out (last_rows_unsaved).
+pub fn save_all<S: ReadState>(st: &S, saved: &mut [u32])
+    requires { 5120 ≤ length saved.old }
+    ensures { Saved (S.state st.now).words.now (S.state st.now).used saved.new }
+{
+    let long = st.used().vars as usize * VAR_WORDS;
+    copy_words(saved, 0, &st.words()[VARS_AT..VARS_AT + long]);
 }
 
 // Bindings and marks are as they were saved; variables taken since then are unbound and unmarked.

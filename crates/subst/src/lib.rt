@@ -13,6 +13,7 @@ ghost use Rattle.shapes.specs.Parts.{next};
 ghost use Rattle.subst.specs.Answers.{Forwards, Unfolds, var_at, Looked, SoonLooked, Counted, Binds};
 
 use names::TVar;
+use table::read::ReadState;
 use table::state::State;
 
 // Why a variable is not bound: the numeric check failed, or the variable occurs in the type.
@@ -39,20 +40,20 @@ pub struct End {
 }
 
 // The variable that cur is bound to, if that is what it is bound to.
-pub fn next_of(st: &State<'_>, cur: TVar) -> Option<TVar>
-    ensures { (ds : List d.Struct) → next result ≡ next_of (held st.now ds) cur.0 }
+pub fn next_of<S: ReadState>(st: &S, cur: TVar) -> Option<TVar>
+    ensures { (ds : List d.Struct) → next result ≡ next_of (held (S.state st.now) ds) cur.0 }
 {
     let t = st.bound_at(cur)?;
     shapes::as_var(st.node_at(t).shape)
 }
 
 // The variable at the end of the chain from id, and the links that were followed.
-pub fn forward_tvar(st: &State<'_>, id: TVar) -> End
-    ensures { Forwards st.now result id.0 }
+pub fn forward_tvar<S: ReadState>(st: &S, id: TVar) -> End
+    ensures { Forwards (S.state st.now) result id.0 }
 {
     let mut cur = id;
     let mut links: u32 = 0;
-    for _link in 0..st.used.vars {
+    for _link in 0..st.used().vars {
         let Some(v) = next_of(st, cur) else {
             return End { tvar: cur, links };
         };
@@ -65,8 +66,8 @@ pub fn forward_tvar(st: &State<'_>, id: TVar) -> End
 // ---- unfold_type
 
 // The type at the end of a chain, at the location loc.
-pub fn unfold_end(st: &State<'_>, loc: u32, last: TVar) -> Unfolded
-    ensures { (v : ℕ) → ((ds : List d.Struct) → last.0 ≡ forward_tvar (held st.now ds) v) → Unfolds st.now result (λ s. var_at loc v) }
+pub fn unfold_end<S: ReadState>(st: &S, loc: u32, last: TVar) -> Unfolded
+    ensures { (v : ℕ) → ((ds : List d.Struct) → last.0 ≡ forward_tvar (held (S.state st.now) ds) v) → Unfolds (S.state st.now) result (λ s. var_at loc v) }
 {
     match st.bound_at(last) {
         None => Unfolded::Anything(loc),
@@ -75,17 +76,17 @@ pub fn unfold_end(st: &State<'_>, loc: u32, last: TVar) -> Unfolded
 }
 
 // The type of the variable v, at the location loc.
-pub fn unfold_tvar(st: &State<'_>, loc: u32, v: TVar) -> Unfolded
-    ensures { Unfolds st.now result (λ s. var_at loc v.0) }
+pub fn unfold_tvar<S: ReadState>(st: &S, loc: u32, v: TVar) -> Unfolded
+    ensures { Unfolds (S.state st.now) result (λ s. var_at loc v.0) }
 {
     let end = forward_tvar(st, v);
     unfold_end(st, loc, end.tvar)
 }
 
 // Of a variable, the type at its end; of any other type, itself.
-pub fn unfold_type(st: &State<'_>, t: u32) -> Unfolded
-    requires { t < st.now.used.nodes }
-    ensures { Unfolds st.now result (λ s. spanned s t) }
+pub fn unfold_type<S: ReadState>(st: &S, t: u32) -> Unfolded
+    requires { t < (S.state st.now).used.nodes }
+    ensures { Unfolds (S.state st.now) result (λ s. spanned s t) }
 {
     let n = st.node_at(t);
     match shapes::as_var(n.shape) {
@@ -95,8 +96,8 @@ pub fn unfold_type(st: &State<'_>, t: u32) -> Unfolded
 }
 
 // How many links unfold_type follows.
-pub fn unfold_links(st: &State<'_>, t: u32) -> u32
-    ensures { (ds : List d.Struct) → result ≡ links_of (held st.now ds) t }
+pub fn unfold_links<S: ReadState>(st: &S, t: u32) -> u32
+    ensures { (ds : List d.Struct) → result ≡ links_of (held (S.state st.now) ds) t }
 {
     let n = st.node_at(t);
     match shapes::as_var(n.shape) {
@@ -124,21 +125,21 @@ pub fn set_num_var(st: &mut State<'_>, tvar: TVar, loc: u32)
 
 // ---- check_num_tvar
 
-fn is_num_var(st: &State<'_>, v: TVar) -> bool
-    ensures { (ds : List d.Struct) → result ≡ is_num_var (held st.now ds) v.0 }
+fn is_num_var<S: ReadState>(st: &S, v: TVar) -> bool
+    ensures { (ds : List d.Struct) → result ≡ is_num_var (held (S.state st.now) ds) v.0 }
 {
     st.num_loc_at(v).is_some()
 }
 
-fn num_node(st: &State<'_>, need: u32, t: u32) -> bool
-    ensures { (ds : List d.Struct) → result ≡ num_shape need (type_at (held st.now ds) t) }
+fn num_node<S: ReadState>(st: &S, need: u32, t: u32) -> bool
+    ensures { (ds : List d.Struct) → result ≡ num_shape need (type_at (held (S.state st.now) ds) t) }
 {
     shapes::num_shape(need, st.node_at(t).shape)
 }
 
 // check_num_tvar_, of a type with so many bits: a variable is followed to its end first.
-fn check_num_type(st: &State<'_>, need: u32, ty: u32) -> bool
-    ensures { (ds : List d.Struct) → result ≡ check_num_tvar' (held st.now ds) need ty }
+fn check_num_type<S: ReadState>(st: &S, need: u32, ty: u32) -> bool
+    ensures { (ds : List d.Struct) → result ≡ check_num_tvar' (held (S.state st.now) ds) need ty }
 {
     let n = st.node_at(ty);
     match shapes::as_var(n.shape) {
@@ -154,8 +155,8 @@ fn check_num_type(st: &State<'_>, need: u32, ty: u32) -> bool
 }
 
 // A variable without a numeric mark takes any type, one with a mark an integer type that has the bits it needs.
-pub fn check_num_tvar(st: &State<'_>, tvar: TVar, ty: u32) -> bool
-    ensures { (ds : List d.Struct) → result ≡ check_num_tvar (held st.now ds) tvar.0 ty }
+pub fn check_num_tvar<S: ReadState>(st: &S, tvar: TVar, ty: u32) -> bool
+    ensures { (ds : List d.Struct) → result ≡ check_num_tvar (held (S.state st.now) ds) tvar.0 ty }
 {
     !is_num_var(st, tvar) || check_num_type(st, st.need_at(tvar), ty)
 }
@@ -180,9 +181,9 @@ fn cut(n: u32) -> u32
 // Down into the parts of node t from the left, up to the first tvar, following no binding. A node without tvar gets its number of parts, so each is entered once.
 // For speed, since a node may be looked at once for each variable that a join binds: the parts lie side by side, a part's number is tested before the call, which many
 // parts then do without, and what eight parts come to is cut once.
-fn used_in(st: &State<'_>, tvar: TVar, t: u32, counts: &mut [u16]) -> Occurs
-    requires { (t < st.now.used.nodes) × Counted st.now tvar.0 counts.old }
-    ensures { Looked st.now tvar.0 t result × Counted st.now tvar.0 counts.new }
+fn used_in<S: ReadState>(st: &S, tvar: TVar, t: u32, counts: &mut [u16]) -> Occurs
+    requires { (t < (S.state st.now).used.nodes) × Counted (S.state st.now) tvar.0 counts.old }
+    ensures { Looked (S.state st.now) tvar.0 t result × Counted (S.state st.now) tvar.0 counts.new }
 {
     let n = st.node_at(t);
     if shapes::is_var(tvar, n.shape) {
@@ -219,9 +220,9 @@ enum Soon {
 }
 
 // The walk without a table, which ends once `budget` parts are looked at.
-fn soon_used(st: &State<'_>, tvar: TVar, t: u32, budget: u32) -> Soon
-    requires { t < st.now.used.nodes }
-    ensures { SoonLooked st.now tvar.0 t budget result }
+fn soon_used<S: ReadState>(st: &S, tvar: TVar, t: u32, budget: u32) -> Soon
+    requires { t < (S.state st.now).used.nodes }
+    ensures { SoonLooked (S.state st.now) tvar.0 t budget result }
 {
     let Some(left) = budget.checked_sub(1) else {
         return Soon::Later;
@@ -243,18 +244,18 @@ fn soon_used(st: &State<'_>, tvar: TVar, t: u32, budget: u32) -> Soon
 
 // Not inlined, so that the table is in no frame of a join.
 #[inline(never)]
-fn used_with_counts(st: &State<'_>, tvar: TVar, ty: u32) -> Occurs
-    requires { ty < st.now.used.nodes }
-    ensures { Looked st.now tvar.0 ty result }
+fn used_with_counts<S: ReadState>(st: &S, tvar: TVar, ty: u32) -> Occurs
+    requires { ty < (S.state st.now).used.nodes }
+    ensures { Looked (S.state st.now) tvar.0 ty result }
 {
     let mut counts = [0; 2048];
     used_in(st, tvar, ty, &mut counts)
 }
 
 // Whether used_tvars(ty) has tvar, and how many parts were looked at.
-pub fn used_tvars(st: &State<'_>, tvar: TVar, ty: u32) -> Occurs
-    requires { ty < st.now.used.nodes }
-    ensures { Looked st.now tvar.0 ty result }
+pub fn used_tvars<S: ReadState>(st: &S, tvar: TVar, ty: u32) -> Occurs
+    requires { ty < (S.state st.now).used.nodes }
+    ensures { Looked (S.state st.now) tvar.0 ty result }
 {
     match soon_used(st, tvar, ty, BUDGET) {
         Soon::Met(rest) => Occurs::Met(BUDGET - rest),

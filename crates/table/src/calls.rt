@@ -1,21 +1,19 @@
-// What a state is asked, and how it is changed: the few functions that touch its words.
+// How a state is changed: the few functions that write its words.
 
-ghost use Rattle.std.specs.Prelude.{◌≡◌, List, [], ◌∷◌, ℕ, ◌<◌, length, take, get_or};
+ghost use Rattle.std.specs.Prelude.{◌≡◌, List, ◌<◌, take};
 ghost use Rattle.definition.specs.Types as d;
-ghost use Rattle.definition.specs.Store.{node, type_at, get, num_loc, need_of, sp, args_at, next_tvar, insert, with_need};
+ghost use Rattle.definition.specs.Store.{sp, next_tvar, insert, with_need};
 ghost use Rattle.definition.specs.Subst.{mark_one, parts};
 ghost use Rattle.names.specs.Names.{mark_of, name_of};
-ghost use Rattle.table.specs.Rows.{constraint_table, struct_table, places};
 ghost use Rattle.table.specs.Encode.{encode};
-ghost use Rattle.table.specs.State.{CellAt, node_of, value_of, constraint_of, seen, Declares, Flat, FoundIn, Parts, with_cell, pushed_constraint};
+ghost use Rattle.table.specs.State.{value_of, constraint_of, Declares, Flat, FoundIn, Parts, with_cell, pushed_constraint};
 ghost use Rattle.table.specs.Did.{held, Counts, Did, Took, Kept, Added, DeclaredBy};
 
+use crate::read::ReadState;
 use crate::state::{State, Stop};
 use crate::{
-    ARGS_AT, Applied, CONSTRAINTS_AT, CellWords, Constraint, NODE_WORDS, NODES_AT, Node,
-    STRUCTS_AT, Shape, StructRow, Used, VARS_AT, cell_row, cell_words_at, constraint_of,
-    constraint_row, constraint_words_at, node_words_at, option_at, put_row, row_of, set_at,
-    shape_at, struct_words_at, touch, tvar, wide, write_parts, write_words,
+    ARGS_AT, Applied, CONSTRAINTS_AT, Constraint, NODES_AT, STRUCTS_AT, Shape, Used, VARS_AT,
+    cell_row, constraint_row, put_row, row_of, touch, tvar, wide, write_parts, write_words,
 };
 use names::{
     AbilityMark, AbilitySet, MAX_ARGS, MAX_CONSTRAINTS, MAX_NODES, MAX_STRUCTS, MAX_VARS, TVar,
@@ -36,117 +34,6 @@ fn next_tvar(used: &mut Used) -> Result<TVar, Stop>
 }
 
 impl State<'_> {
-    // The node with number t; past the nodes in use, `!` without a location.
-    pub fn node_at(&self, t: u32) -> Node
-        ensures { (ds : List d.Struct) → node_of result ≡ node (held self.now ds) t }
-    {
-        if t < self.used.nodes {
-            let r = node_words_at(self.words, t);
-            let shape = shape_at(r);
-            Node { loc: r.loc, shape }
-        } else {
-            Node {
-                loc: 0,
-                shape: Shape::UnresolvedError,
-            }
-        }
-    }
-
-    // Argument i of a node whose first place is `first`.
-    pub fn arg_at(&self, first: u32, i: u32) -> u32
-        ensures { (ds : List d.Struct) (many : ℕ) → i < many → result ≡ get_or (args_at (held self.now ds) (places first many)) i 0 }
-    {
-        let k = wide(first) + wide(i);
-        if k < wide(self.used.args) {
-            self.words[ARGS_AT + k]
-        } else {
-            0
-        }
-    }
-
-    // The parts of n, which is node t; a reference's one stands in its row. For a walk over many: read one by one, each place would be tested anew.
-    pub fn parts_of(&self, t: u32, n: Node) -> &[u32]
-        requires { (t < self.now.used.nodes) × ((ds : List d.Struct) → node_of n ≡ node (held self.now ds) t) }
-        ensures { (ds : List d.Struct) → result.now ≡ parts (type_at (held self.now ds) t) }
-    {
-        match n.shape {
-            Shape::Ref(_, _) => {
-                let at = NODES_AT + wide(t) * NODE_WORDS + 3;
-                &self.words[at..at + 1]
-            }
-            Shape::Apply(a) => {
-                let at = ARGS_AT + wide(a.first);
-                &self.words[at..at + wide(a.many)]
-            }
-            _ => &[],
-        }
-    }
-
-    // The words of v's row, if v is in use.
-    fn cell_at(&self, v: TVar) -> Option<CellWords>
-        ensures { CellAt self.now.words.now self.now.used.vars v.0 result }
-    {
-        let i = u32::from(v);
-        if i < self.used.vars {
-            Some(cell_words_at(self.words, i))
-        } else {
-            None
-        }
-    }
-
-    // Subst::get: what v is bound to.
-    pub fn bound_at(&self, v: TVar) -> Option<u32>
-        ensures { (ds : List d.Struct) → result ≡ get (held self.now ds) v.0 }
-    {
-        let r = self.cell_at(v)?;
-        option_at(r.bound, r.binding)
-    }
-
-    // num_vars.get: the location of v's numeric mark.
-    pub fn num_loc_at(&self, v: TVar) -> Option<u32>
-        ensures { (ds : List d.Struct) → result ≡ num_loc (held self.now ds) v.0 }
-    {
-        let r = self.cell_at(v)?;
-        option_at(r.numeric, r.loc)
-    }
-
-    // How many bits v's numeric mark needs.
-    pub fn need_at(&self, v: TVar) -> u32
-        ensures { (ds : List d.Struct) → result ≡ need_of (held self.now ds) v.0 }
-    {
-        match self.cell_at(v) {
-            Some(r) => r.need,
-            None => 0,
-        }
-    }
-
-    // Constraint i, in the order of the list.
-    pub fn constraint_at(&self, i: u32) -> Constraint
-        requires { i < self.now.used.constraints }
-        ensures { (ds : List d.Struct) → constraint_of result ≡ get_or (held self.now ds).constraints i constraint_table.blank }
-    {
-        let r = constraint_words_at(self.words, i);
-        constraint_of(r)
-    }
-
-    // The row of struct n; past the structs in use, no abilities and no parameters.
-    pub fn struct_at(&self, n: u32) -> StructRow
-        ensures { (ds : List d.Struct) → Declares self.now.words.now self.now.used ds → (result.abilities.0 ≡ (get_or ds n struct_table.blank).abilities) × (result.params ≡ length (get_or ds n struct_table.blank).params) }
-    {
-        if n < self.used.structs {
-            let r = struct_words_at(self.words, n);
-            StructRow {
-                abilities: set_at(r.abilities),
-                params: r.params,
-            }
-        } else {
-            StructRow {
-                abilities: AbilitySet(0),
-                params: 0,
-            }
-        }
-    }
-
     // sp of a type without arguments: a new node, if there is room for it.
     pub fn push_node(&mut self, loc: u32, shape: Shape) -> Result<u32, Stop>
         requires { Flat self.old.used.nodes shape }

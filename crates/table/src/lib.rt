@@ -13,6 +13,8 @@ ghost use Rattle.table.specs.State.{node_words_at, cell_words_at, constraint_wor
 
 pub mod calls;
 pub mod one_row;
+pub mod read;
+pub mod shared;
 pub mod state;
 
 use names::{AbilityMark, AbilitySet, TParamID, TVar, TypeName};

@@ -8,7 +8,7 @@ ghost use Rattle.std.specs.Prelude.{◌<◌};
 use names::TVar;
 use std::io;
 use subst::Occurs;
-use table::state::State;
+use table::shared::SharedState;
 use table::{ARGS_AT, NODE_WORDS, NODES_AT, VAR_WORDS, VARS_AT, WORDS};
 
 // ---- states, written word by word
@@ -170,7 +170,7 @@ struct Answers {
 }
 
 // Asked many times over, so that a walk that is not quick is seen.
-fn walks(st: &State<'_>, v: TVar, t: u32) -> Answers
+fn walks(st: &SharedState<'_>, v: TVar, t: u32) -> Answers
     requires { t < st.now.used.nodes }
 {
     let mut last = Answers {
@@ -186,21 +186,21 @@ fn walks(st: &State<'_>, v: TVar, t: u32) -> Answers
     last
 }
 
-// The walks' answers for the last node, if the state is sound and has one.
-fn ask(w: &mut [u32], v: TVar) -> Option<Answers> {
+// The walks' answers for the last node, if the state is sound and has one. They only read it: its words are shared.
+fn ask(w: &[u32], v: TVar) -> Option<Answers> {
     if !sound::sound_state(w, [[0u8; 8]; 256]) {
         return None;
     }
     let u = sound::used_of(w);
     let last = u.nodes.checked_sub(1)?;
-    let st = State::new(w, u);
+    let st = SharedState::new(w, u);
     Some(walks(&st, v, last))
 }
 
 fn print(rt: &HostRuntime, trap: Trap, v: TVar) -> io::Result<()> {
     let mut w = [0u32; WORDS];
     build(&mut w, trap);
-    let Some(a) = ask(&mut w, v) else {
+    let Some(a) = ask(&w, v) else {
         return println!(rt; "0 - - -");
     };
     match a.used {

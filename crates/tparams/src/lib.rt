@@ -18,6 +18,7 @@ mod substitution;
 use names::TParamID;
 use refusals::Refusal;
 pub use substitution::TParamSubst;
+use table::read::ReadState;
 use table::state::{State, Stop};
 use table::{Applied, Shape};
 

@@ -11,6 +11,7 @@ ghost use Rattle.writer.specs.Bytes.{Wrote, Capped, NameByte, ByteFields, AllByt
 
 use names::{AbilityMark, TypeName};
 use table::Shape;
+use table::read::ReadState;
 use table::state::State;
 
 // ---- into a buffer: a buffer and a place, no writer over what is left, since the place at the end is the length that is asked for

@@ -4,7 +4,7 @@ use Rattle.abilities.proofs.Sets.{Walked}
 use Rattle.abilities.proofs.+infer.Given as goal
 
 abbrev pub decreases-infer : goal.decreases-infer
-decreases-infer l = l.left
+decreases-infer g l = l.left
 
 abbrev pub invariant-loop-i : goal.invariant-loop-i
-invariant-loop-i l = Walked l.chains.st.now l.params l.t l.left l.initial.sets l.s l.many l.sets l.i
+invariant-loop-i g l = Walked (g.S.ReadState.state l.chains.st.now) l.params l.t l.left l.initial.sets l.s l.many l.sets l.i

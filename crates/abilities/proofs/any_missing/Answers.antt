@@ -9,7 +9,7 @@ use Rattle.abilities.proofs.any_missing.Goals as goal
 
 pub returns : goal.returns
 unfolding any_misses
-returns c = λ ds k.
-    let test = misses (held c.args.st.now ds) c.args.a.ty c.args.a.set.0 in
+returns g c = λ ds k.
+    let test = misses (held (g.S.ReadState.state c.args.st.now) ds) c.args.a.ty c.args.a.set.0 in
     any_from_yields_List {all = 1 ∷ 2 ∷ 4 ∷ 8 ∷ []} test _ _ _ c.any.ensures.ran (YieldsList-from_slice _ cc) (λ x b q m. search (rules, tests))
     ∙ any_four test

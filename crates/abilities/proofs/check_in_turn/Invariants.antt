@@ -4,4 +4,4 @@ use Rattle.abilities.proofs.Checked.{Passed}
 use Rattle.abilities.proofs.check_in_turn.Given as goal
 
 abbrev pub invariant-loop-i : goal.invariant-loop-i
-invariant-loop-i l = Passed l.chains.st.now l.params l.initial.sets l.heights l.sets l.i
+invariant-loop-i g l = Passed (g.S.ReadState.state l.chains.st.now) l.params l.initial.sets l.heights l.sets l.i

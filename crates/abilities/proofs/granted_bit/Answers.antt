@@ -4,7 +4,7 @@ use native.Mathlib.Omega.{arith}
 use Rattle.abilities.proofs.granted_bit.Goals as goal
 
 pub returns-then-granted : goal.returns-then-granted
-returns-then-granted c = (omega arith, λ ds k. rw (sym (c.granted.ensures ds k), c.if-granted.true) refl)
+returns-then-granted g c = (omega arith, λ ds k. rw (sym (c.granted.ensures ds k), c.if-granted.true) refl)
 
 pub returns-else-granted : goal.returns-else-granted
-returns-else-granted c = (omega arith, λ ds k. rw (sym (c.granted.ensures ds k), c.if-granted.false) refl)
+returns-else-granted g c = (omega arith, λ ds k. rw (sym (c.granted.ensures ds k), c.if-granted.false) refl)

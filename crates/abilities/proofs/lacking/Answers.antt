@@ -9,7 +9,7 @@ use Rattle.abilities.proofs.Laws.{first_found, place_in}
 use Rattle.abilities.proofs.lacking.Goals as goal
 
 pub returns : goal.returns
-returns c = let st = c.args.st.now in
+returns g c = let st = (g.S.ReadState.state c.args.st.now) in
     let ran = c.find.ensures.ran in (
       place_in _ _ (first_from_Range _ _ _ _ (λ i. Unit {0}) (λ i. Unit {0}) ran (λ x q m. tt) (λ x q m. search rules)) c.requires.0.few,
       λ ds k.

@@ -12,8 +12,8 @@ use Rattle.abilities.proofs.shape_contradicts.Goals as goal
 
 pub returns : goal.returns
 unfolding missing
-returns c = λ ds k.
-    let s = held c.args.st.now ds in
+returns g c = λ ds k.
+    let s = held (g.S.ReadState.state c.args.st.now) ds in
     let lacks = misses s c.args.a.ty c.args.a.set.0 in
     let test = λ (ability : ℕ). lacks ability && clashes s c.args.a.ty ability in
     any_from_yields_List {all = 1 ∷ 2 ∷ 4 ∷ 8 ∷ []} test _ _ _ c.any.ensures.ran (YieldsList-from_slice _ cc) (λ x b q m. search (rules, tests))

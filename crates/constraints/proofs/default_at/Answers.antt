@@ -6,4 +6,4 @@ use Rattle.table.specs.Did.{held}
 use Rattle.constraints.proofs.default_at.Goals as goal
 
 pub returns : goal.returns
-returns c = λ ds. c.default_builtin.ensures ∙ ap default_builtin (c.need_at.ensures ds ∙ ap (need_of (held c.args.st.now ds)) (c.forward_tvar.ensures.tvar_is ds))
+returns g c = λ ds. c.default_builtin.ensures ∙ ap default_builtin (c.need_at.ensures ds ∙ ap (need_of (held (g.S.ReadState.state c.args.st.now) ds)) (c.forward_tvar.ensures.tvar_is ds))

@@ -4,4 +4,4 @@ use Rattle.ends.proofs.Itself.{reaches_soon}
 use Rattle.ends.proofs.near_over.Goals as goal
 
 pub returns : goal.returns
-returns c = λ z. reaches_soon _ _ _ c.soon_over.ensures (sym c.is_some.ensures ∙ z)
+returns g c = λ z. reaches_soon _ _ _ (rw c.used.ensures at c.soon_over.ensures) (sym c.is_some.ensures ∙ z)

@@ -3,4 +3,4 @@ use Rattle.ends.proofs.Ends.{Noting}
 use Rattle.ends.proofs.note_chain.Given as goal
 
 abbrev pub invariant-loop : goal.invariant-loop
-invariant-loop l = Noting l.st l.x l.long l.ends l.cur.0
+invariant-loop g l = Noting (g.S.ReadState.state l.st) l.x l.long l.ends l.cur.0

@@ -4,4 +4,4 @@ use Rattle.ends.specs.Ends.{Noted}
 use Rattle.ends.proofs.note_ends.Given as goal
 
 abbrev pub invariant-loop-i : goal.invariant-loop-i
-invariant-loop-i l = (l.longest ≤ l.st.used.vars) × Noted l.st l.longest l.ends
+invariant-loop-i g l = (l.longest ≤ (g.S.ReadState.state l.st).used.vars) × Noted (g.S.ReadState.state l.st) l.longest l.ends

@@ -4,8 +4,8 @@ use Rattle.fields.proofs.Forms.{rm_is, rm_unread}
 use Rattle.fields.proofs.read_rm.Goals as goal
 
 pub returns-in_err-sums-clause-is : goal.returns-in_err-sums-clause-is
-returns-in_err-sums-clause-is c = λ names. let e : c.from_residual.result ≡ Err c.in_err-sums.field-0.0 = search rules in
+returns-in_err-sums-clause-is g c = λ names. let e : c.from_residual.result ≡ Err c.in_err-sums.field-0.0 = search rules in
     rw e (rm_unread _ c.in_err-sums.ensures.is)
 
 pub returns-clause-is : goal.returns-clause-is
-returns-clause-is c = λ names. rm_is _ c.in_ok-sums.ensures.is
+returns-clause-is g c = λ names. rm_is _ c.in_ok-sums.ensures.is

@@ -10,26 +10,26 @@ short : {l l' : Bytes} → Within l l' → length l ≤ 4096 → length l' ≤ 4
 short w p = let q = within_shorter w in omega arith
 
 pub count_parts-both-all-requires : goal.count_parts-both-all-requires
-count_parts-both-all-requires t c = (rw c.own.ensures (few_own c.args.head.shape), rw c.beside.ensures (few_beside c.args.arg c.args.head.shape))
+count_parts-both-all-requires g t c = (rw c.own.ensures (few_own c.args.head.shape), rw c.beside.ensures (few_beside c.args.arg c.args.head.shape))
 
 pub count_parts-loop-i-init : goal.count_parts-loop-i-init
-count_parts-loop-i-init t c = (go_none _ _ _ _ _ _ (rw (c.both-all.ensures, c.own.ensures, c.beside.ensures) (head_most c.args.arg c.args.head.shape)), within_all)
+count_parts-loop-i-init g t c = (go_none _ _ _ _ _ _ (rw (c.both-all.ensures, c.own.ensures, c.beside.ensures) (head_most c.args.arg c.args.head.shape)), within_all)
 
 pub count_parts-returns-in_err-part-clause-is : goal.count_parts-returns-in_err-part-clause-is
-count_parts-returns-in_err-part-clause-is t c = let e : c.from_residual.result ≡ Err c.in_err-part.field-0.0 = search rules in
+count_parts-returns-in_err-part-clause-is g t c = let e : c.from_residual.result ≡ Err c.in_err-part.field-0.0 = search rules in
     rw e (go_stop c.loop-i.invariant.0 c.in_err-part.ensures.is c.loop-i-test.true c.args.head c.part_count-n.ensures)
 
 pub count_parts-both-all-requires-in-loop-i : goal.count_parts-both-all-requires-in-loop-i
-count_parts-both-all-requires-in-loop-i t c = (go_few c.loop-i.invariant.0 c.requires.short, part_few c.loop-i.invariant.0 c.in_ok-part.ensures.is (short c.loop-i.invariant.1 c.requires.short))
+count_parts-both-all-requires-in-loop-i g t c = (go_few c.loop-i.invariant.0 c.requires.short, part_few c.loop-i.invariant.0 c.in_ok-part.ensures.is (short c.loop-i.invariant.1 c.requires.short))
 
 pub count_parts-loop-i-preserved : goal.count_parts-loop-i-preserved
-count_parts-loop-i-preserved t c = (rw c.both-all-in-loop-i.ensures (go_more c.loop-i.invariant.0 c.in_ok-part.ensures.is c.loop-i-test.true), within_then c.loop-i.invariant.1 c.in_ok-part.ensures.within)
+count_parts-loop-i-preserved g t c = (rw c.both-all-in-loop-i.ensures (go_more c.loop-i.invariant.0 c.in_ok-part.ensures.is c.loop-i-test.true), within_then c.loop-i.invariant.1 c.in_ok-part.ensures.within)
 
 pub count_parts-returns-clause-is : goal.count_parts-returns-clause-is
-count_parts-returns-clause-is t c = go_all c.loop-i.invariant.0 (omega arith) c.args.arg c.args.head c.part_count-n.ensures c.is_apply-args.ensures (rw (c.both-all.ensures, c.own.ensures, c.beside.ensures) refl)
+count_parts-returns-clause-is g t c = go_all c.loop-i.invariant.0 (omega arith) c.args.arg c.args.head c.part_count-n.ensures c.is_apply-args.ensures (rw (c.both-all.ensures, c.own.ensures, c.beside.ensures) refl)
 
 pub count_type-returns-clause-is : goal.count_type-returns-clause-is
-count_type-returns-clause-is t c = counts_is (λ ds s d k. c.in_ok-head.ensures.reads s ds d k) c.count_parts.ensures.is
+count_type-returns-clause-is g t c = counts_is (λ ds s d k. c.in_ok-head.ensures.reads s ds d k) c.count_parts.ensures.is
 
 pub count_parts-count_type-requires : goal.count_parts-count_type-requires
-count_parts-count_type-requires t c = let few = short c.loop-i.invariant.1 c.requires.short in search rules
+count_parts-count_type-requires g t c = let few = short c.loop-i.invariant.1 c.requires.short in search rules

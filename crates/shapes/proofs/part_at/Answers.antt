@@ -8,10 +8,10 @@ use Rattle.shapes.proofs.Parts.{part_ref, part_apply, no_parts}
 use Rattle.shapes.proofs.part_at.Goals as goal
 
 pub returns-in-Ref : goal.returns-in-Ref
-returns-in-Ref c = λ ds l. part_ref _ _ _ _ _ c.in-Ref.is l
+returns-in-Ref g c = λ ds l. part_ref _ _ _ _ _ c.in-Ref.is l
 
 pub returns-in-Apply : goal.returns-in-Apply
-returns-in-Apply c = λ ds l. part_apply _ _ _ _ _ c.in-Apply.is l (c.arg_at.ensures ds)
+returns-in-Apply g c = λ ds l. part_apply _ _ _ _ _ c.in-Apply.is l (c.arg_at.ensures ds)
 
 pub returns-in_default : goal.returns-in_default
-returns-in_default c = λ ds l. ap (λ (x : List ℕ). get_or x c.args.i 0) (no_parts c.args.s (opened c.in_default.in_default-own.keys3) _)
+returns-in_default g c = λ ds l. ap (λ (x : List ℕ). get_or x c.args.i 0) (no_parts c.args.s (opened c.in_default.in_default-own.keys3) _)

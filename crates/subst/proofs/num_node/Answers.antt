@@ -5,4 +5,4 @@ use Rattle.table.proofs.Grown.{value_is}
 use Rattle.subst.proofs.num_node.Goals as goal
 
 pub returns : goal.returns
-returns c = λ ds. c.num_shape.ensures _ ∙ ap (num_shape c.args.need) (value_is _ _ c.node_at.result (c.node_at.ensures ds))
+returns g c = λ ds. c.num_shape.ensures _ ∙ ap (num_shape c.args.need) (value_is _ _ c.node_at.result (c.node_at.ensures ds))

@@ -6,7 +6,7 @@ use mathlib.Core.Path.{ap, ◌∙◌}
 use Rattle.subst.proofs.unfold_links.Goals as goal
 
 pub returns-in-None : goal.returns-in-None
-returns-in-None c = λ ds. links_plain _ _ (var_of _ _ c.node_at-n.result c.as_var.result (c.node_at-n.ensures ds) c.as_var.ensures ∙ ap next c.in-None.is)
+returns-in-None g c = λ ds. links_plain _ _ (var_of _ _ c.node_at-n.result c.as_var.result (c.node_at-n.ensures ds) c.as_var.ensures ∙ ap next c.in-None.is)
 
 pub returns-in-Some : goal.returns-in-Some
-returns-in-Some c = λ ds. links_var _ _ _ (var_of _ _ c.node_at-n.result c.as_var.result (c.node_at-n.ensures ds) c.as_var.ensures ∙ ap next c.in-Some.is) _ (c.forward_tvar.ensures.links_is ds)
+returns-in-Some g c = λ ds. links_var _ _ _ (var_of _ _ c.node_at-n.result c.as_var.result (c.node_at-n.ensures ds) c.as_var.ensures ∙ ap next c.in-Some.is) _ (c.forward_tvar.ensures.links_is ds)

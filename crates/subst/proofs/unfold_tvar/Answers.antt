@@ -2,4 +2,4 @@
 use Rattle.subst.proofs.unfold_tvar.Goals as goal
 
 pub returns : goal.returns
-returns c = c.unfold_end.ensures _ c.forward_tvar-end.ensures.tvar_is
+returns g c = c.unfold_end.ensures _ c.forward_tvar-end.ensures.tvar_is

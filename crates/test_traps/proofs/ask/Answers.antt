@@ -12,4 +12,4 @@ pub new-st-requires : goal.new-st-requires
 new-st-requires c = rw c.used_of-u.ensures (lent_lay _ _ (lent_says _ _ (sym c.sound_state.ensures ∙ c.if-not-sound_state.false)))
 
 pub walks-requires : goal.walks-requires
-walks-requires c = rw c.new-st.ensures.1.0 (omega (arith, c.in_ok-last.ensures.0, c.in_ok-last.ensures.1))
+walks-requires c = rw c.new-st.ensures.1 (omega (arith, c.in_ok-last.ensures.0, c.in_ok-last.ensures.1))

@@ -1,6 +1,5 @@
 -- `table::one_row::node_in` meets its contract. Assumes nothing.
 use mathlib.Core.Path.{sym, ap, ◌∙◌}
-use Rattle.table.specs.State.{shape_of}
 use Rattle.table.specs.declared.NodeWords.{NodeWords}
 use Rattle.table.specs.Rows.{read_node, read_shape}
 use Rattle.table.proofs.Fields.{node_row}

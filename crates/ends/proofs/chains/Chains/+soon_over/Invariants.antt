@@ -3,7 +3,7 @@ use Rattle.ends.proofs.Itself.{Few}
 use Rattle.ends.proofs.chains.Chains.+soon_over.Given as goal
 
 abbrev pub decreases-soon_over : goal.decreases-soon_over
-decreases-soon_over l = l.left
+decreases-soon_over g l = l.left
 
 abbrev pub invariant-loop-i : goal.invariant-loop-i
-invariant-loop-i l = Few l.self.st.now l.t l.left l.shape l.i-end l.i
+invariant-loop-i g l = Few (g.S.ReadState.state l.self.st.now) l.t l.left l.shape l.i-end l.i

@@ -5,9 +5,9 @@ use Rattle.ends.proofs.Itself.{goes_node, goes_anything, unfolded_node}
 use Rattle.ends.proofs.chains.Chains.goes_on.Goals as goal
 
 pub returns-in-Node : goal.returns-in-Node
-returns-in-Node c = let leads = c.lead.ensures in
+returns-in-Node g c = let leads = c.lead.ensures in
     let e = ap unfolds_to c.in-Node.is in
     goes_node _ _ _ leads.unfolds _ e (unfolded_node leads.unfolds.inside e) c.node_at.result c.node_at.ensures
 
 pub returns-in-Open : goal.returns-in-Open
-returns-in-Open c = goes_anything _ _ _ c.lead.ensures.unfolds _ (ap unfolds_to c.in-Open.is)
+returns-in-Open g c = goes_anything _ _ _ c.lead.ensures.unfolds _ (ap unfolds_to c.in-Open.is)
