@@ -1,7 +1,8 @@
-// The functions that docs/LOOK-BACK.md lists under a1, asked of words that are shared: no caller here lends any by `&mut`.
+// What docs/LOOK-BACK.md lists under a1, with save_all in place of save_vars, asked of a state whose words are shared.
+// Refused (must-fail/): no variable known (known_of_none), another node asked (first_node_asked).
 #![tactic(auto)]
 
-ghost use Rattle.std.specs.Prelude.{◌≡◌, List, ℕ, ◌-◌, ◌<◌, ◌≤◌, length, get_or, suc};
+ghost use Rattle.std.specs.Prelude.{◌≡◌, List, ℕ, ◌-◌, ◌<◌, ◌≤◌, length, get_or, suc, IfOk};
 ghost use Rattle.definition.specs.Types as d;
 ghost use Rattle.definition.specs.Store.{with_args};
 ghost use Rattle.definition.specs.Subst.{parts, reaches_itself};
@@ -20,7 +21,8 @@ ghost use Rattle.abilities.specs.Kept.{Kept, Knows as Declared, Ready, parts_of,
 ghost use Rattle.abilities.specs.Rules.{AllAsked, AllKept, Checked, RuleIn, rule_of, any_asks};
 ghost use Rattle.failing.specs.Failing.{TyIn};
 ghost use Rattle.constraints.specs.Lacking.{IsAbility, AskedReady, Lacking, row};
-ghost use Rattle.heads.specs.Fields.{Arities, Knows, tree_read};
+ghost use Rattle.heads.specs.Fields.{Arities, Knows, many_parts, tree_read};
+ghost use Rattle.cursor.specs.Words.{Within};
 ghost use Rattle.needs.specs.Counted.{Counts};
 ghost use Rattle.fields.specs.Noded.{FieldsAre};
 
@@ -93,7 +95,9 @@ pub fn read_head(
     nest: u32,
 ) -> Result<Head, Refusal>
     requires { Lay words.now used × Arities (view words.now used).structs }
-    ensures { (s : d.State) (ds : List d.Struct) → Declares words.now used ds → Knows s known ds → tree_read result r.new.left.now (read_nested (nest - 1) s) ≡ read_nested nest s r.old.left.now }
+    ensures reads { (s : d.State) (ds : List d.Struct) → Declares words.now used ds → Knows s known ds → tree_read result r.new.left.now (read_nested (nest - 1) s) ≡ read_nested nest s r.old.left.now }
+    ensures few { IfOk result (λ h. (many_parts h.shape ≤ 8) × (0 < nest)) }
+    ensures within { Within r.old.left.now r.new.left.now }
 {
     heads::read_head(&SharedState { words, used }, r, known, nest)
 }
@@ -166,14 +170,16 @@ pub fn count_type(
     arg: bool,
 ) -> Result<Option<Sums>, Refusal>
     requires { Arities (view st.now.words.now st.now.used).structs × (length r.old.left.now ≤ 4096) }
-    ensures { Counts (⟦<SharedState<'static> as ReadState>⟧.state st.now) known arg (λ s. read_nested nest s r.old.left.now) r.new.left.now result }
+    ensures is { Counts (⟦<SharedState<'static> as ReadState>⟧.state st.now) known arg (λ s. read_nested nest s r.old.left.now) r.new.left.now result }
+    ensures within { Within r.old.left.now r.new.left.now }
 {
     needs::count_type(st, r, known, nest, arg)
 }
 
 pub fn read_rm(st: &SharedState<'_>, r: &mut Reader, known: u32) -> Result<Option<What>, Refusal>
     requires { Arities (view st.now.words.now st.now.used).structs × (length r.old.left.now ≤ 4096) }
-    ensures { (names : List ℕ) → FieldsAre names (⟦<SharedState<'static> as ReadState>⟧.state st.now) known (λ s. read_one RM (read_type s) r.old.left.now) (⟦<SharedState<'static> as ReadState>⟧.state st.now) r.new.left.now result }
+    ensures is { (names : List ℕ) → FieldsAre names (⟦<SharedState<'static> as ReadState>⟧.state st.now) known (λ s. read_one RM (read_type s) r.old.left.now) (⟦<SharedState<'static> as ReadState>⟧.state st.now) r.new.left.now result }
+    ensures within { Within r.old.left.now r.new.left.now }
 {
     fields::read_rm(st, r, known)
 }
