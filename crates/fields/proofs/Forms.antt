@@ -123,9 +123,9 @@ pub made_with : (names : List ℕ) (o : Option ℕ) (mk : ℕ → What) (f : ℕ
 made_with names (Some t) mk f s l e = ap (λ (y : Noded). placed (ok (s, y)) l) (e t)
 made_with names None mk f s l e = refl
 
-pub made_so : (names : List ℕ) (o : Option ℕ) (n : ℕ) (mk : ℕ → What) → PlacedSo (Ok o) (λ t. t < n) → ((t : ℕ) → o ≡ Some t → t < n → WhatIn names n (mk t)) → PlacedSo (Ok (option_map mk o)) (WhatIn names n)
-made_so names (Some t) n mk i f = f t refl i
-made_so names None n mk i f = tt
+pub made_so : (P : What → Type 0) (o : Option ℕ) (n : ℕ) (mk : ℕ → What) → PlacedSo (Ok o) (λ t. t < n) → ((t : ℕ) → o ≡ Some t → t < n → P (mk t)) → PlacedSo (Ok (option_map mk o)) P
+made_so P (Some t) n mk i f = f t refl i
+made_so P None n mk i f = tt
 
 -- ---- one type
 
@@ -144,7 +144,7 @@ one_is {names} {st} l₀ {st'} {l} {o} {mk} {make} f t =
       same = t.same;
       grown = t.grown;
       structs = t.structs;
-      inside = made_so names o st'.used.nodes mk t.inside (λ x e i. f.inside names st'.used.nodes x i);
+      inside = made_so (WhatIn names st'.used.nodes) o st'.used.nodes mk t.inside (λ x e i. f.inside names st'.used.nodes x i);
       is = λ ds s d k. made_with names o mk f.nodes (held st' ds) l (f.shows names) ∙ last_type place_record make f.nodes f.places (Ok o) false _ (held st ds) _ _ (t.is ds s d k);
     }
 
@@ -212,7 +212,7 @@ module _ {st : Table} {known : ℕ} (l₀ : Bytes) {st₁ : Table} {l₁ : Bytes
         same = linked t'.same t.same;
         grown = grown_trans _ _ _ t.grown t'.grown;
         structs = t'.structs ∙ t.structs;
-        inside = made_so names p st₂.used.nodes (both_made m (unwrap_or o 0)) t'.inside (λ x f i. (first_in o st₁.used.nodes st₂.used.nodes (nodes_grow _ _ _ _ t'.grown) (was_open (rw f at t')) t.inside, i));
+        inside = made_so (WhatIn names st₂.used.nodes) p st₂.used.nodes (both_made m (unwrap_or o 0)) t'.inside (λ x f i. (first_in o st₁.used.nodes st₂.used.nodes (nodes_grow _ _ _ _ t'.grown) (was_open (rw f at t')) t.inside, i));
         is = λ ds s d k.
             made_with names p (both_made m (unwrap_or o 0)) (nodes m (unwrap_or o 0)) (held st₂ ds) l (λ t. refl)
             ∙ alone m (unwrap_or o 0) p _ (read_nested 64 s l₁) (held st₁ ds) _ _ (t'.is ds s (declares_kept _ _ _ _ ds t.structs d) k)

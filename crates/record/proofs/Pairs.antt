@@ -36,7 +36,7 @@ use Rattle.reader.proofs.Parts.{never}
 use Rattle.fields.specs.declared.Look.TheVariants as k
 use Rattle.fields.specs.declared.What.{What}
 use Rattle.fields.specs.declared.What.TheVariants as q
-use Rattle.fields.specs.Noded.{Noded, run, looks, tparams, place_record, FieldsAre}
+use Rattle.fields.specs.Noded.{Noded, run, looks, tparams, place_record, FieldsAre, WhatIn}
 use Rattle.fields.proofs.Placing.{stopped_is, last_type, first_type}
 use Rattle.fields.proofs.Forms.{was_open, made_with, made_so, first_in}
 use Rattle.table.proofs.Did.{linked, linked_now}
@@ -303,7 +303,7 @@ module _ {st₀ : Table} {l₀ : Bytes} {known n : ℕ} {st : Table} {l : Bytes}
         same = linked t.same g.same;
         grown = grown_trans _ _ _ g.grown t.grown;
         structs = t.structs ∙ g.structs;
-        inside = made_so names o st'.used.nodes all_made t.inside (λ x f q. (record { few = few; below = λ j h. under (was_open (rw f at t)) up j (omega arith) }, q));
+        inside = made_so (WhatIn names st'.used.nodes) o st'.used.nodes all_made t.inside (λ x f q. (record { few = few; below = λ j h. under (was_open (rw f at t)) up j (omega arith) }, q));
         is = λ ds s d k.
             made_with names o all_made (λ x. run (looks (tparams (pairs ids nodes 0 n) x))) (held st' ds) l' (λ t. refl)
             ∙ last_type (put_left (pairs ids nodes 0 n)) (λ t. ([], t)) (λ x. run (looks (tparams (pairs ids nodes 0 n) x))) (put_last (pairs ids nodes 0 n)) (Ok o) over (read_nested 64 s l) (held st ds)

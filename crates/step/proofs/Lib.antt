@@ -7,3 +7,4 @@ pub mod Reading
 pub mod Keeping
 pub mod Replying
 pub mod Stepping
+pub mod Sets
